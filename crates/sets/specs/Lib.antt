@@ -1,0 +1,3 @@
+pub mod Boundaries
+pub mod Lists
+pub mod Buffers
