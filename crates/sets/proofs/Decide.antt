@@ -36,3 +36,14 @@ and-not-left s t p = rw p refl
 
 pub and-not-right : (s t : Bool) → s ≡ true → t ≡ false → (s && t) ≡ false
 and-not-right s t p q = rw (p, q) refl
+
+pub and-given : (s t : Bool) → s ≡ true → (s && t) ≡ t
+and-given s t p = rw p refl
+
+pub or-split : (s t : Bool) → (s || t) ≡ true → (s ≡ true) ⊎ (t ≡ true)
+or-split true t h = inl refl
+or-split false t h = inr h
+
+pub or-true : (s : Bool) → (s || true) ≡ true
+or-true true = refl
+or-true false = refl

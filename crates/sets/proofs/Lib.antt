@@ -1,2 +1,8 @@
 pub mod Decide
+pub mod Places
 pub mod Members
+pub mod Pairs
+pub mod Good
+pub mod Answers
+pub mod Demand
+mod Fixed

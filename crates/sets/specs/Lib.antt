@@ -1,3 +1,6 @@
 pub mod Boundaries
 pub mod Lists
 pub mod Buffers
+pub mod Orders
+pub mod Demand
+pub mod Answers

@@ -1,9 +1,14 @@
 -- Flat lists of ranges: first, last, first, last .. Assumes nothing: these are definitions.
-use Prim.Native.Nat.{ℕ, _+_}
+use Prim.Native.Nat.{ℕ, _+_, _/_}
 use mathlib.Core.List.{List, [], _∷_}
 use mathlib.Core.Bool.{Bool, true, false, cond, _&&_, _||_}
+use lib.ListN.{length}
 use lib.Dec.{leb}
 use Rattle.scalar.specs.Scalars.{between}
+
+-- how many ranges a list of number pairs has
+abbrev pub ranges : List ℕ → ℕ
+ranges l = length l / 2
 
 -- some range holds x
 unfoldable pub holds : List ℕ → ℕ → Bool

@@ -1,8 +1,8 @@
--- `sets::range_fits` meets its contract: each return rewrites with the tests that led there. Assumes nothing.
+-- `sets::core::range_fits` meets its contract: each return rewrites with the tests that led there. Assumes nothing.
 use mathlib.Core.Bool.{_&&_}
 use borrow.Author.Tests.{le-leb, lt-leb}
-use Rattle.sets.proofs.range_fits.Statement.{statement}
-use Rattle.sets.proofs.range_fits.Tie as tie
+use Rattle.sets.proofs.core.range_fits.Statement.{statement}
+use Rattle.sets.proofs.core.range_fits.Tie as tie
 
 returns : tie.Need-returns
 returns c = simp (lt-leb _ _ (c .if1 .taken))

@@ -1,0 +1,6 @@
+pub mod Headers
+pub mod Table
+pub mod Rules
+pub mod Stated
+pub mod Answers
+pub mod Seek

@@ -1,0 +1,23 @@
+-- What the parts of the search compute; these serve the crate itself. Assumes nothing: these are definitions.
+use Prim.Native.Nat.{ℕ, zero, suc, _+_, _<_, _≤_}
+use mathlib.Core.List.{List, [], _∷_}
+use lib.ListN.{length, getD}
+use mathlib.Core.Bool.{cond}
+use lib.Dec.{leb}
+use Rattle.skip.specs.Headers.{prefixSum}
+
+-- run k is the first whose sum is above x
+pub record Run (hs : List ℕ) (x k : ℕ) : Type 0 where
+  pub is : k < length hs
+  pub passed : (j : ℕ) → j < k → prefixSum (getD hs j 0) ≤ x
+  pub holds : x < prefixSum (getD hs k 0)
+
+-- the sum before run k, p before the first
+abbrev pub prev : ℕ → List ℕ → ℕ → ℕ
+prev p hs zero = p
+prev p hs (suc k) = prefixSum (getD hs k 0)
+
+-- how many offsets bring the sum so far to no more than x, before the first that does not
+unfoldable pub upto : ℕ → ℕ → List ℕ → ℕ
+upto x at [] = 0
+upto x at (o ∷ os) = cond (leb (at + o) x) (suc (upto x (at + o) os)) 0

@@ -1,0 +1,131 @@
+// What other crates call: the lowest broken rule, and the search in a table that keeps the rules.
+ghost use mathlib.Core.Path.{_≡_};
+ghost use mathlib.Core.Bool.{true};
+ghost use Prim.Native.Nat.{_+_, _≤_, _<_};
+ghost use lib.ListN.{length, drop};
+ghost use lib.Seq.{slice};
+ghost use Rattle.sets.specs.Boundaries.{member};
+ghost use Rattle.skip.specs.Headers.{runEnd};
+ghost use Rattle.skip.specs.Table.{boundaries, reads};
+ghost use Rattle.skip.specs.Rules.{W4, broken};
+ghost use Rattle.skip.specs.Seek.{Run, prev, upto};
+use crate::prefix_sum;
+use crate::rules::sizes_ok;
+use crate::rules::starts_at_zero;
+use crate::rules::starts_rise;
+use crate::rules::sums_fit;
+use crate::rules::sums_rise;
+use crate::start_index;
+
+// Whether a number is in a table, and how many offsets of its run were read.
+pub struct Hit {
+    pub yes: bool,
+    pub read: usize,
+}
+
+pub fn widen(x: u8) -> u32
+    ensures { λ r. ⌜ r ≡ x ⌝ }
+{
+    x as u32
+}
+
+// Where run k ends: the next start, or the end of the n offsets.
+pub fn run_end(headers: &[u32], n: usize, k: usize) -> usize
+    requires { ⌜ k < length (now headers) ⌝ }
+    ensures { λ r. ⌜ r ≡ runEnd n (drop (k + 1) (now (headers .entry))) ⌝ }
+{
+    let after = k + 1;
+    if after < headers.len() {
+        start_index(headers[after])
+    } else {
+        n
+    }
+}
+
+// The lowest broken rule, 0 if there is none.
+pub fn lowest_broken(headers: &[u32], offsets: &[u8]) -> usize
+    ensures { λ r. ⌜ r ≡ broken (now (headers .entry)) (now (offsets .entry)) ⌝ }
+{
+    if !sizes_ok(headers, offsets) {
+        return 1;
+    }
+    if !starts_at_zero(headers) {
+        return 2;
+    }
+    if !starts_rise(headers, offsets.len()) {
+        return 3;
+    }
+    if !sums_rise(headers) {
+        return 4;
+    }
+    if !sums_fit(headers, offsets) {
+        return 5;
+    }
+    0
+}
+
+// The first run whose sum is above x: it lies from lo on, and not past hi.
+fn run_of(headers: &[u32], x: u32) -> usize
+    requires { ⌜ (W4 0 (now headers) ≡ true) × (x ≤ 0x10FFFF) × (0 < length (now headers)) ⌝ }
+    ensures { λ r. ⌜ Run (now (headers .entry)) x r ⌝ }
+{
+    let mut lo: usize = 0;
+    let mut hi = headers.len() - 1;
+    while lo < hi {
+        let mid = lo + (hi - lo) / 2;
+        if x < prefix_sum(headers[mid]) {
+            hi = mid;
+        } else {
+            lo = mid + 1;
+        }
+    }
+    lo
+}
+
+// The sum before run k.
+fn sum_before(headers: &[u32], k: usize) -> u32
+    requires { ⌜ k < length (now headers) ⌝ }
+    ensures { λ r. ⌜ r ≡ prev 0 (now (headers .entry)) k ⌝ }
+{
+    if k == 0 {
+        return 0;
+    }
+    let j = k - 1;
+    prefix_sum(headers[j])
+}
+
+// The place from `begin` on at which the sum so far passes x, or `last`.
+fn within(offsets: &[u8], x: u32, begin: usize, last: usize, before: u32) -> usize
+    requires { ⌜ (begin ≤ last) × (last < length (now offsets)) × (x ≤ 0x10FFFF) × (before ≤ x) ⌝ }
+    ensures { λ r. ⌜ (r ≡ begin + upto x before (slice begin last (now (offsets .entry)))) × (begin ≤ r) × (r ≤ last) ⌝ }
+{
+    let mut at = before;
+    let mut i = begin;
+    while i < last {
+        at += widen(offsets[i]);
+        if x < at {
+            return i;
+        }
+        i += 1;
+    }
+    i
+}
+
+// The answer of an accepted table; a run's last offset is never read.
+pub fn skip_search(headers: &[u32], offsets: &[u8], x: u32) -> Hit
+    requires { ⌜ (broken (now headers) (now offsets) ≡ 0) × (x ≤ 0x10FFFF) ⌝ }
+    ensures { λ r. ⌜ (r .yes ≡ member (boundaries (now (headers .entry)) (now (offsets .entry))) x) × (r .read ≡ reads (now (headers .entry)) (now (offsets .entry)) x) ⌝ }
+{
+    let k = run_of(headers, x);
+    let begin = start_index(headers[k]);
+    let end = run_end(headers, offsets.len(), k);
+    let last = end - 1;
+    let i = within(offsets, x, begin, last, sum_before(headers, k));
+    let yes = i % 2 == 1;
+    if i < last {
+        let read = i - begin + 1;
+        return Hit { yes, read };
+    }
+    let read = last - begin;
+    Hit { yes, read }
+}
