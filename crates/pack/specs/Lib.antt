@@ -1,0 +1,3 @@
+pub mod Packing
+pub mod Places
+pub mod Answers

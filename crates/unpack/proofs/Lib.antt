@@ -1,0 +1,6 @@
+pub mod Flows
+pub mod Same
+pub mod Outcome
+pub mod SameSet
+pub mod RoundTrip
+mod Fixed

@@ -1,0 +1,14 @@
+-- `unpack::opens_at` meets its contract: each return rewrites with the test that led there. Assumes nothing.
+use mathlib.Core.Path.{refl}
+use borrow.Author.Tests.{le-leb, lt-leb}
+use Rattle.unpack.proofs.opens_at.Statement.{statement}
+use Rattle.unpack.proofs.opens_at.Tie as tie
+
+returns : tie.Need-returns
+returns c = rw (le-leb _ _ (c .if1 .taken)) refl
+
+returns-2 : tie.Need-returns-2
+returns-2 c = rw (lt-leb _ _ (c .if1 .left)) refl
+
+pub opens-at-spec : {M : Type 1} → statement M
+opens-at-spec = tie.close (tie.spec returns returns-2)

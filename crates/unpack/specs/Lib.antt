@@ -1,0 +1,3 @@
+pub mod Unpacking
+pub mod Flow
+pub mod Answers
