@@ -1,0 +1,4 @@
+pub mod Rotate
+pub mod Tables
+pub mod Scan
+pub mod Equal

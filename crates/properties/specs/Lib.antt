@@ -1,0 +1,3 @@
+pub mod WhiteSpace
+pub mod Control
+pub mod Properties
