@@ -1,0 +1,6 @@
+pub mod Answers
+pub mod Sorted
+pub mod Reader
+pub mod Expand
+pub mod Whole
+pub mod Letters

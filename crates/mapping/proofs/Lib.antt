@@ -1,0 +1,4 @@
+pub mod Entries
+pub mod Cases
+mod Fixed
+pub mod Counts
