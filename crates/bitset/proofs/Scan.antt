@@ -29,8 +29,8 @@ unfoldable pub places : (ℕ → Bool) → (ℕ → ℕ) → ℕ → ℕ → Boo
 places f word zero i p = []
 places f word (suc k) i p =
     elim (eqb (word i) 0 && not p) [
-      true ↦ places f word k (suc i) p
-    | false ↦ scan f 64 (64 * i) p (λ q. places f word k (suc i) q)
+      | true ↦ places f word k (suc i) p
+      | false ↦ scan f 64 (64 * i) p (λ q. places f word k (suc i) q)
     ]
 
 cases : (b : Bool) (P : List ℕ → Type 0) (x y : List ℕ) → (b ≡ true → P x) → (b ≡ false → P y) → P (elim b [ true ↦ x | false ↦ y ])
@@ -73,13 +73,13 @@ module _ (m : ℕ) where
         let less : m < suc n + k = omega (arith, add-suc n k, suc-add n k) in
         cases (cond (f n) p (not p)) (λ l. says p l m ≡ f m) (scan f k (suc n) p rest) (n ∷ scan f k (suc n) (not p) rest)
         (λ e. ⊎-elim
-          (λ i. before k (suc n) p p rest (omega arith) g ∙ kept (f n) p e ∙ ap f i)
-          (λ l. within k (suc n) p rest l less g)
-          (eq-or-lt-of-le a))
+        (λ i. before k (suc n) p p rest (omega arith) g ∙ kept (f n) p e ∙ ap f i)
+        (λ l. within k (suc n) p rest l less g)
+        (eq-or-lt-of-le a))
         (λ e. says-in p n _ a ∙ ⊎-elim
-          (λ i. before k (suc n) (not p) (not p) rest (omega arith) g ∙ turned (f n) p e ∙ ap f i)
-          (λ l. within k (suc n) (not p) rest l less g)
-          (eq-or-lt-of-le a))
+        (λ i. before k (suc n) (not p) (not p) rest (omega arith) g ∙ turned (f n) p e ∙ ap f i)
+        (λ l. within k (suc n) (not p) rest l less g)
+        (eq-or-lt-of-le a))
 
     past : (k n : ℕ) (p : Bool) (rest : Bool → List ℕ) → n + k ≤ m → ((a : Bool) → says a (rest a) m ≡ f m) → says p (scan f k n p rest) m ≡ f m
     unfolding scan
@@ -108,13 +108,13 @@ module _ (m : ℕ) where
         decides (suc k) i p a b =
             cases (eqb (word i) 0 && not p) (λ l. says p l m ≡ f m) (places f word k (suc i) p) (scan f 64 (64 * i) p (λ q. places f word k (suc i) q))
             (λ e. ⊎-elim
-              (λ (h : 64 * i + 64 ≤ m). decides k (suc i) p (omega arith) (omega arith))
-              (λ (h : m < 64 * i + 64).
-                before-places k (suc i) p p (omega arith)
-                ∙ not-true p (and-right (eqb (word i) 0) (not p) e)
-                ∙ sym (empty i (eqb-true (word i) 0 (and-left (eqb (word i) 0) (not p) e)) a h))
-              (split (64 * i + 64) m))
+            (λ (h : 64 * i + 64 ≤ m). decides k (suc i) p (omega arith) (omega arith))
+            (λ (h : m < 64 * i + 64).
+            before-places k (suc i) p p (omega arith)
+            ∙ not-true p (and-right (eqb (word i) 0) (not p) e)
+            ∙ sym (empty i (eqb-true (word i) 0 (and-left (eqb (word i) 0) (not p) e)) a h))
+            (split (64 * i + 64) m))
             (λ e. ⊎-elim
-              (λ (h : 64 * i + 64 ≤ m). past 64 (64 * i) p (λ q. places f word k (suc i) q) h (λ q. decides k (suc i) q (omega arith) (omega arith)))
-              (λ (h : m < 64 * i + 64). within 64 (64 * i) p (λ q. places f word k (suc i) q) a h (λ x y. before-places k (suc i) x y (omega arith)))
-              (split (64 * i + 64) m))
+            (λ (h : 64 * i + 64 ≤ m). past 64 (64 * i) p (λ q. places f word k (suc i) q) h (λ q. decides k (suc i) q (omega arith) (omega arith)))
+            (λ (h : m < 64 * i + 64). within 64 (64 * i) p (λ q. places f word k (suc i) q) a h (λ x y. before-places k (suc i) x y (omega arith)))
+            (split (64 * i + 64) m))

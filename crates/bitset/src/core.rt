@@ -58,7 +58,14 @@ fn word_at(canonical: &[u64], real: &[u8], mapping: &[u8], index: usize) -> u64
 }
 
 // Whether the bit of n is set.
-pub fn bitset_search(n: u32, map: &[u8], chunks: &[u8], canonical: &[u64], real: &[u8], mapping: &[u8]) -> bool
+pub fn bitset_search(
+    n: u32,
+    map: &[u8],
+    chunks: &[u8],
+    canonical: &[u64],
+    real: &[u8],
+    mapping: &[u8],
+) -> bool
     requires { ⌜ Inside (bitset (now map) (now chunks) (now canonical) (now real) (now mapping)) ⌝ }
     ensures { λ r. ⌜ r ≡ contains (bitset (now (map .entry)) (now (chunks .entry)) (now (canonical .entry)) (now (real .entry)) (now (mapping .entry))) n ⌝ }
 {

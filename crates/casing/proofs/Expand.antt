@@ -124,8 +124,8 @@ module _ (x : ℕ) (says : Row → Mapping) where
           ⊎-elim
           (λ (e : p .0 ≡ x). find-hit p (merge k ps qs) o e ∙ sym (find-hit p ps (find (q ∷ qs) o) e))
           (λ ne.
-              let m : q .0 ≡ x → ⊥ = λ e. ne (sym (eqb-true (q .0) (p .0) b) ∙ e) in
-              find-on p (merge k ps qs) o ne ∙ g ∙ sym (find-on p ps (find (q ∷ qs) o) ne ∙ rw (find-on q qs o m) refl))
+          let m : q .0 ≡ x → ⊥ = λ e. ne (sym (eqb-true (q .0) (p .0) b) ∙ e) in
+          find-on p (merge k ps qs) o ne ∙ g ∙ sym (find-on p ps (find (q ∷ qs) o) ne ∙ rw (find-on q qs o m) refl))
           (same (p .0) x)
       by-order false false a b f g h =
           ⊎-elim
@@ -139,8 +139,10 @@ module _ (x : ℕ) (says : Row → Mapping) where
         ≡ cond (meets s p n) ((b + n, b + (n + d) % 65536, 0, 0) ∷ scan b s p d k (suc n) rest) (scan b s p d k (suc n) rest)
     unfolding scan
     scan-step s p d k n rest =
-        rw (forced (b + n) (λ y. force (b + (n + d) % 65536) (λ z. (y, z, 0, 0) ∷ scan b s p d k (suc n) rest)),
-        forced (b + (n + d) % 65536) (λ z. (b + n, z, 0, 0) ∷ scan b s p d k (suc n) rest)) refl
+        rw (
+          forced (b + n) (λ y. force (b + (n + d) % 65536) (λ z. (y, z, 0, 0) ∷ scan b s p d k (suc n) rest)),
+          forced (b + (n + d) % 65536) (λ z. (b + n, z, 0, 0) ∷ scan b s p d k (suc n) rest),
+        ) refl
 
     -- a scan holds no number outside it
     scan-out : (s p d k n : ℕ) (rest : List Row) (o : Mapping) → (x < b + n) ⊎ (b + n + k ≤ x) → find (scan b s p d k n rest) o ≡ find rest o
@@ -187,26 +189,28 @@ module _ (x : ℕ) (says : Row → Mapping) where
         let rest = expandSingles b qs in
         ⊎-elim
         (λ (l : q .0 ≤ m).
-            ⊎-elim
-            (λ (h : m ≤ q .1).
-                rw (le-leb (q .0) m l, le-leb m (q .1) h)
-                (scan-in (q .0) (q .2) (q .3) (suc (q .1) - q .0) (q .0) m rest o e l (omega arith)
-                ∙ ap (λ (z : Mapping). cond (meets (q .0) (q .2) m) (says (b + m, b + (m + q .3) % 65536, 0, 0)) z) on))
-            (λ (h : q .1 < m).
-                rw (le-leb (q .0) m l, lt-leb m (q .1) h)
-                (scan-out (q .0) (q .2) (q .3) (suc (q .1) - q .0) (q .0) rest o (inr (omega arith)) ∙ on))
-            (split m (q .1)))
+        ⊎-elim
+        (λ (h : m ≤ q .1).
+        rw (le-leb (q .0) m l, le-leb m (q .1) h)
+        (scan-in (q .0) (q .2) (q .3) (suc (q .1) - q .0) (q .0) m rest o e l (omega arith)
+        ∙ ap (λ (z : Mapping). cond (meets (q .0) (q .2) m) (says (b + m, b + (m + q .3) % 65536, 0, 0)) z) on))
+        (λ (h : q .1 < m).
+        rw (le-leb (q .0) m l, lt-leb m (q .1) h)
+        (scan-out (q .0) (q .2) (q .3) (suc (q .1) - q .0) (q .0) rest o (inr (omega arith)) ∙ on))
+        (split m (q .1)))
         (λ (l : m < q .0).
-            rw (lt-leb (q .0) m l)
-            (scan-out (q .0) (q .2) (q .3) (suc (q .1) - q .0) (q .0) rest o (inl (omega arith)) ∙ on))
+        rw (lt-leb (q .0) m l)
+        (scan-out (q .0) (q .2) (q .3) (suc (q .1) - q .0) (q .0) rest o (inl (omega arith)) ∙ on))
         (split (q .0) m)
 
     -- the multi rows of a plane, written out
     multis-step : (q : Row) (qs : List Row) → expandMultis b (q ∷ qs) ≡ (b + q .0, b + q .1, raised b (q .2), raised b (q .3)) ∷ expandMultis b qs
     unfolding expandMultis
     multis-step q qs =
-        rw (forced (b + q .0) (λ y. force (b + q .1) (λ z. (y, z, raised b (q .2), raised b (q .3)) ∷ expandMultis b qs)),
-        forced (b + q .1) (λ z. (b + q .0, z, raised b (q .2), raised b (q .3)) ∷ expandMultis b qs)) refl
+        rw (
+          forced (b + q .0) (λ y. force (b + q .1) (λ z. (y, z, raised b (q .2), raised b (q .3)) ∷ expandMultis b qs)),
+          forced (b + q .1) (λ z. (b + q .0, z, raised b (q .2), raised b (q .3)) ∷ expandMultis b qs),
+        ) refl
 
     no-multis : (o : Mapping) → find (expandMultis b []) o ≡ o
     unfolding expandMultis

@@ -49,9 +49,9 @@ module _ (n : ℕ) (s : isScalar n ≡ true) where
   upper-letters =
       letters-map 0x61 0x7A 0xFFE0 n (n - 0x20) s
       (λ b.
-          let l = leb-true 0x61 n (and-left (leb 0x61 n) (leb n 0x7A) b) in
-          let h = leb-true n 0x7A (and-right (leb 0x61 n) (leb n 0x7A) b) in
-          omega arith)
+      let l = leb-true 0x61 n (and-left (leb 0x61 n) (leb n 0x7A) b) in
+      let h = leb-true n 0x7A (and-right (leb 0x61 n) (leb n 0x7A) b) in
+      omega arith)
 
 module _ (floor : ℕ) (rows0 rows1 : Rows) (n : ℕ) (other : Mapping) where
   pub below-floor : n < floor → other ≡ fromFloor floor rows0 rows1 n other

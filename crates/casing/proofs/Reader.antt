@@ -98,9 +98,10 @@ multis-parts multi first second third t =
     let c = eqb (length second) (length multi) in
     let d = eqb (length third) (length multi) in
     let u = and-left (a && b && c) d t in
-    let v = and-left (a && b) c u in
-    (and-left a b v,
-    record { second = eqb-true _ _ (and-right a b v); third = eqb-true _ _ (and-right (a && b) c u); fourth = eqb-true _ _ (and-right (a && b && c) d t) })
+    let v = and-left (a && b) c u in (
+      and-left a b v,
+      record { second = eqb-true _ _ (and-right a b v); third = eqb-true _ _ (and-right (a && b) c u); fourth = eqb-true _ _ (and-right (a && b && c) d t) },
+    )
 
 module _ (starts ends steps deltas : List ℕ) (plane x : ℕ) (other : Mapping) (t : tidySingles starts ends steps deltas ≡ true) where
   module _ (r : ℕ) (o : Only starts ends x r) where

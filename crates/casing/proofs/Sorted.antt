@@ -21,9 +21,11 @@ and-no-right false t p = refl
 apart-on : (p s e : ℕ) (ss es : List ℕ) → apart p (s ∷ ss) (e ∷ es) ≡ true → (p ≤ s) × (s ≤ e) × (apart (suc e) ss es ≡ true)
 unfolding apart
 apart-on p s e ss es t =
-    let u = and-left (leb p s && leb s e) (apart (suc e) ss es) t in
-    (leb-true p s (and-left (leb p s) (leb s e) u), leb-true s e (and-right (leb p s) (leb s e) u),
-    and-right (leb p s && leb s e) (apart (suc e) ss es) t)
+    let u = and-left (leb p s && leb s e) (apart (suc e) ss es) t in (
+      leb-true p s (and-left (leb p s) (leb s e) u),
+      leb-true s e (and-right (leb p s) (leb s e) u),
+      and-right (leb p s && leb s e) (apart (suc e) ss es) t,
+    )
 
 -- what the test says of the row at j: it starts at p or later, it ends where it starts or later, and each row before it ends below its start
 pub record At (p : ℕ) (ss es : List ℕ) (j : ℕ) : Type 0 where
@@ -72,7 +74,7 @@ module _ (ss es : List ℕ) (x : ℕ) (t : apart 0 ss es ≡ true) where
         inside = l;
         others = λ j k ne.
             ⊎-elim (λ (h : r ≤ j). let o : r < j = omega arith in
-                let y = apart-at 0 ss es t j k in
-                past j (omega (arith, y .above r o, here (omega arith))))
-            (λ h. below j (before j h)) (split r j)
+            let y = apart-at 0 ss es t j k in
+            past j (omega (arith, y .above r o, here (omega arith))))
+            (λ h. below j (before j h)) (split r j);
       }

@@ -79,7 +79,7 @@ module _ (floor : ℕ) (rows0 rows1 : Rows) (under : List Row) (low : floor ≤ 
   parts : Sound floor rows0 rows1
   parts =
       let u = tested (rising 0 (allSingles rows0 rows1)) (rising 0 (allMultis rows0 rows1)) (spans floor 65535 (singles rows0))
-          (spans 0 65535 (singles rows1)) (lies floor 65535 (multis rows0)) (lies 0 65535 (multis rows1)) t in
+      (spans 0 65535 (singles rows1)) (lies floor 65535 (multis rows0)) (lies 0 65535 (multis rows1)) t in
       record { rise = u .0; climb = u .1; span0 = u .2; span1 = u .3; lie0 = u .4; lie1 = u .5 }
 
   module _ (n : ℕ) (o : Mapping) where
@@ -148,17 +148,17 @@ module _ (floor : ℕ) (rows0 rows1 : Rows) (under : List Row) (low : floor ≤ 
     written-maps =
         ⊎-elim
         (λ (h : floor ≤ n).
-            rw (le-ltb n floor h)
-            (⊎-elim
-            (λ (k : 65536 ≤ n).
-                ⊎-elim
-                (λ (l : 131072 ≤ n). let a : n / 65536 ≡ 0 → ⊥ = λ e. omega arith in let b : n / 65536 ≡ 1 → ⊥ = λ e. omega arith in
-                    rw (ne-eqb (n / 65536) 0 a, ne-eqb (n / 65536) 1 b) (above l))
-                (λ (l : n < 131072). let a : n / 65536 ≡ 0 → ⊥ = λ e. omega arith in
-                    rw (ne-eqb (n / 65536) 0 a, eq-eqb (n / 65536) 1 (omega arith)) (plane1 k l))
-                (split 131072 n))
-            (λ (k : n < 65536). rw (eq-eqb (n / 65536) 0 (omega arith)) (plane0 h k))
-            (split 65536 n)))
+        rw (le-ltb n floor h)
+        (⊎-elim
+        (λ (k : 65536 ≤ n).
+        ⊎-elim
+        (λ (l : 131072 ≤ n). let a : n / 65536 ≡ 0 → ⊥ = λ e. omega arith in let b : n / 65536 ≡ 1 → ⊥ = λ e. omega arith in
+        rw (ne-eqb (n / 65536) 0 a, ne-eqb (n / 65536) 1 b) (above l))
+        (λ (l : n < 131072). let a : n / 65536 ≡ 0 → ⊥ = λ e. omega arith in
+        rw (ne-eqb (n / 65536) 0 a, eq-eqb (n / 65536) 1 (omega arith)) (plane1 k l))
+        (split 131072 n))
+        (λ (k : n < 65536). rw (eq-eqb (n / 65536) 0 (omega arith)) (plane0 h k))
+        (split 65536 n)))
         (λ (h : n < floor). rw (lt-ltb n floor h) (below h))
         (split floor n)
 

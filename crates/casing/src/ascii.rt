@@ -1,7 +1,6 @@
 // ASCII letters in the other case; any other number as it is.
 ghost use mathlib.Core.Path.{_≡_};
 ghost use Rattle.casing.specs.Answers.{asciiLowered, asciiUppered};
-
 use scalar::ascii;
 
 pub fn to_ascii_lowercase(n: u32) -> u32

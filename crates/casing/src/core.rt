@@ -5,7 +5,6 @@ ghost use Prim.Native.Nat.{ℕ, _<_};
 ghost use Rattle.casing.specs.Rows.{zip, covers, moved, inPlane, inPlaneOr0, single, multiple, looked, apart, tidySingles, tidyMultis};
 ghost use Rattle.casing.specs.Answers.{answer};
 ghost use Rattle.casing.specs.Only.{Only};
-
 use crate::Mapping;
 
 // The one row that can hold x: the first that does not end below it.
@@ -142,5 +141,13 @@ pub fn lookup(
     requires { ⌜ tidyMultis (now multi) (now first) (now second) (now third) ≡ true ⌝ }
     ensures { λ r. ⌜ r ≡ looked (record { starts = now (starts .entry); ends = now (ends .entry); steps = now (steps .entry); deltas = now (deltas .entry); multi = now (multi .entry); first = now (first .entry); second = now (second .entry); third = now (third .entry) }) plane low other ⌝ }
 {
-    single_row(starts, ends, steps, deltas, plane, low, multi_row(multi, first, second, third, plane, low, other))
+    single_row(
+        starts,
+        ends,
+        steps,
+        deltas,
+        plane,
+        low,
+        multi_row(multi, first, second, third, plane, low, other),
+    )
 }

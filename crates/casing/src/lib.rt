@@ -1,8 +1,9 @@
 // The mapping answer, the ASCII letters, and the row reader that the three mappings share.
 ghost use mathlib.Core.Path.{_≡_};
 ghost use Rattle.casing.specs.Answers.{refused, used, answer};
-
-use scalar::{Refusal, Scalar, ScalarCheck};
+use scalar::Refusal;
+use scalar::Scalar;
+use scalar::ScalarCheck;
 
 pub mod ascii;
 pub mod core;

@@ -6,10 +6,9 @@ ghost use Rattle.casing.specs.Rows.{looked};
 ghost use Rattle.casing.specs.Listed.{rowOf};
 ghost use Rattle.casing_lower.specs.Planes as planes;
 ghost use Rattle.casing_lower.specs.Unicode.{rows};
-
+use crate::table;
 use casing::Mapping;
 use casing::ascii;
-use crate::table;
 
 const NONE: [u16; 0] = [];
 

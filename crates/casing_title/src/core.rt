@@ -6,9 +6,8 @@ ghost use Rattle.casing.specs.Rows.{looked};
 ghost use Rattle.casing.specs.Listed.{rowOf};
 ghost use Rattle.casing_title.specs.Planes as planes;
 ghost use Rattle.casing_title.specs.Unicode.{rows};
-
-use casing::Mapping;
 use crate::table;
+use casing::Mapping;
 
 // The rows of plane 0, lent once; plane 1 has none.
 fn plane0(low: u16, other: Mapping) -> Mapping

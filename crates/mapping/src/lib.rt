@@ -4,9 +4,9 @@ ghost use Rattle.casing.specs.Listed.{mappingOf};
 ghost use Rattle.casing_lower.specs.Unicode as lower;
 ghost use Rattle.casing_title.specs.Unicode as title;
 ghost use Rattle.casing_upper.specs.Unicode as upper;
-
 use casing::Mapping;
-use scalar::{Scalar, ScalarCheck};
+use scalar::Scalar;
+use scalar::ScalarCheck;
 
 pub fn to_lowercase(n: u32) -> Mapping
     ensures { λ r. ⌜ r ≡ mappingOf lower.rows n ⌝ }

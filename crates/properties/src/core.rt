@@ -4,7 +4,6 @@ ghost use mathlib.Core.Path.{_≡_};
 ghost use Prim.Native.Nat.{_≤_};
 ghost use Rattle.sets.specs.Lists.{holds};
 ghost use Rattle.properties.specs.Properties.{alphabetic, lowercase, uppercase, titlecase, numeric, whitespace, control, cased, alphanumeric, otherSpaces};
-
 use scalar::ascii::is_ascii_digit;
 use scalar::ascii::is_ascii_lowercase;
 use scalar::ascii::is_ascii_uppercase;

@@ -17,16 +17,30 @@ walked : Walked headers offsets flat 291 0x1FFFFF
 unfolding headers offsets flat edges rising fastWalk fastW5 W3 W4
 walked =
     record {
-      size = refl; walks = refl; rises = refl; closes = lit< tt;
-      W1-kept = refl; W2-kept = refl; W3-kept = refl; W4-kept = refl; W5-kept = refl
+      size = refl;
+      walks = refl;
+      rises = refl;
+      closes = lit< tt;
+      W1-kept = refl;
+      W2-kept = refl;
+      W3-kept = refl;
+      W4-kept = refl;
+      W5-kept = refl;
     }
 
 rust-walked : Walked rustHeaders offsets flat 291 1244154
 unfolding rustHeaders offsets flat edges rising fastWalk fastW5 W3 W4
 rust-walked =
     record {
-      size = refl; walks = refl; rises = refl; closes = lit< tt;
-      W1-kept = refl; W2-kept = refl; W3-kept = refl; W4-kept = refl; W5-kept = refl
+      size = refl;
+      walks = refl;
+      rises = refl;
+      closes = lit< tt;
+      W1-kept = refl;
+      W2-kept = refl;
+      W3-kept = refl;
+      W4-kept = refl;
+      W5-kept = refl;
     }
 
 -- the table keeps W1 to W5

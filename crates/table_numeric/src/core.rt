@@ -3,7 +3,6 @@ ghost use mathlib.Core.Path.{_≡_};
 ghost use Prim.Native.Nat.{_≤_};
 ghost use Rattle.sets.specs.Lists.{holds};
 ghost use Rattle.table_numeric.specs.Flat.{flat};
-
 use crate::table::HEADERS;
 use crate::table::OFFSETS;
 

@@ -2,10 +2,9 @@
 ghost use mathlib.Core.Path.{_≡_};
 ghost use Rattle.sets.specs.Lists.{holds};
 ghost use Rattle.table_uppercase.specs.Flat.{flat};
-
 use crate::table::CANONICAL;
-use crate::table::CHUNKS;
 use crate::table::CHUNK_MAP;
+use crate::table::CHUNKS;
 use crate::table::MAPPED_WORD;
 use crate::table::MAPPING;
 

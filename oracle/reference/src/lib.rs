@@ -16,9 +16,15 @@ mod methods;
 use core::{cmp, ops};
 #[cfg(have_sources)]
 mod intrinsics {
-    /// In core this is a promise to the optimiser. Here it is a test: a broken promise stops the run.
+    /// In core this is a promise to the optimiser. Here it is a test too, wherever assertions are on: a
+    /// broken promise stops the run.
+    #[inline(always)]
     pub unsafe fn assume(holds: bool) {
-        assert!(holds);
+        if cfg!(debug_assertions) {
+            assert!(holds);
+        } else {
+            core::hint::assert_unchecked(holds);
+        }
     }
 }
 #[cfg(have_sources)]
@@ -72,6 +78,38 @@ pub fn reference() -> Option<Reference> {
             ("to_title", unicode_data::conversions::to_title),
         ],
     })
+}
+
+/// The same answers as functions of their own, for whoever times them: a table of pointers would keep
+/// them from being inlined.
+#[cfg(have_sources)]
+pub mod rust {
+    pub const AT_HAND: bool = true;
+    pub use crate::methods::*;
+    pub use crate::unicode_data::conversions::{to_lower, to_title, to_upper};
+
+    #[inline]
+    pub fn is_printable(c: char) -> bool {
+        crate::printable::is_printable(c)
+    }
+}
+
+/// Stand-ins that nobody calls where the sources are not at hand.
+#[cfg(not(have_sources))]
+pub mod rust {
+    pub const AT_HAND: bool = false;
+
+    macro_rules! absent {
+        ($result:ty: $($name:ident)*) => {$(
+            pub fn $name(_: char) -> $result {
+                unreachable!("the sources of the Rust library are not at hand")
+            }
+        )*};
+    }
+
+    absent! { bool: is_alphabetic is_lowercase is_uppercase is_titlecase is_cased is_numeric is_alphanumeric
+        is_whitespace is_control is_printable }
+    absent! { crate::Mapped: to_lower to_upper to_title }
 }
 
 /// Every scalar value, in order: 1,112,064 of them.

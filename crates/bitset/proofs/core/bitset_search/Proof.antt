@@ -56,7 +56,7 @@ wide-requires-2 c κs = search needs
 
 -- src/core.rt:71:9
 word-at-requires : tie.Need-word-at-requires
-word-at-requires c κs = 
+word-at-requires c κs =
     let s = c .before .before .before .before .before .before .before .before .before .before in
     let n = s .args .n in
     let bound = length (s .args .canonical .now) + length (s .args .real .now) in
@@ -75,7 +75,7 @@ shr-result c = search needs
 
 -- src/core.rt:61:1
 returns-2 : tie.Need-returns-2
-returns-2 c = 
+returns-2 c =
     let s = c .before .before .before .before .before .before .before .before .before .before .before in
     let n = s .args .n in
     let word = wordAt (s .args .canonical .now) (s .args .real .now) (s .args .mapping .now) in

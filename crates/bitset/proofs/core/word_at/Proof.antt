@@ -70,7 +70,7 @@ turn-requires c κs = search needs
 
 -- src/core.rt:46:1
 returns-2 : tie.Need-returns-2
-returns-2 c = 
+returns-2 c =
     let s = c .before .before .before .before .before .before .before .before .before .before in
     let can = s .args .canonical .now in
     let how = getD (s .args .mapping .now) (s .args .index - length can) 0 in

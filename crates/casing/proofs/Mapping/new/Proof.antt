@@ -50,7 +50,7 @@ refused-requires-2 c κs = search needs
 
 -- src/lib.rt:49:13
 returns-2 : tie.Need-returns-2
-returns-2 c = 
+returns-2 c =
     c .refused2 .ensures ∙ refuses-second _ _ _ (a-scalar _ _ (sym (c .before .before .before .before .before .a .given .1) ∙ c .before .before .before .before .before .before .before .new .ensures)) (no-scalar _ _ (sym (c .before .enum-told2 .given .1) ∙ c .before .before .before .new2 .ensures))
 
 -- src/lib.rt:51:37
@@ -71,7 +71,7 @@ refused-requires-3 c κs = search needs
 
 -- src/lib.rt:52:13
 returns-3 : tie.Need-returns-3
-returns-3 c = 
+returns-3 c =
     c .refused3 .ensures ∙ refuses-third _ _ _ (a-scalar _ _ (sym (c .before .before .before .before .before .before .before .before .before .a .given .1) ∙ c .before .before .before .before .before .before .before .before .before .before .before .new .ensures)) (a-scalar _ _ (sym (c .before .before .before .before .before .b .given .1) ∙ c .before .before .before .before .before .before .before .new2 .ensures)) (no-scalar _ _ (sym (c .before .enum-told3 .given .1) ∙ c .before .before .before .new3 .ensures))
 
 -- src/lib.rt:56:20
@@ -81,7 +81,7 @@ used-of-requires c κs = search needs
 -- src/lib.rt:42:5
 returns-4 : tie.Need-returns-4
 unfolding made
-returns-4 c = 
+returns-4 c =
     let va = sym (c .before .before .before .before .before .before .before .before .before .before .a .given .1) ∙ c .before .before .before .before .before .before .before .before .before .before .before .before .new .ensures in
     let vb = sym (c .before .before .before .before .before .before .b .given .1) ∙ c .before .before .before .before .before .before .before .before .new2 .ensures in
     let vc = sym (c .before .before .c .given .1) ∙ c .before .before .before .before .new3 .ensures in

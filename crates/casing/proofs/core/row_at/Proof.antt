@@ -47,19 +47,21 @@ loop-less c = search needs
 
 -- src/core.rt:18:5
 loop-again : tie.Need-loop-again Inv-loop μ-loop
-loop-again c = 
+loop-again c =
     let ss = c .before .before .before .before .args .starts .now in
     let es = c .before .before .before .before .args .ends .now in
     let lo = c .before .before .before .loop .lo in
     let hi = c .before .before .before .loop .hi in
-    let m = lo + (hi - lo) / 2 in
-    (omega arith, omega arith,
-    (λ j l.
-        ⊎-elim
-        (λ e. rw e (c .if1 .taken))
-        (λ k. omega (arith, ends-rise ss es 0 (c .before .before .before .before .pre) j m k (omega arith), c .if1 .taken))
-        (eq-or-lt-of-le {n = j} {m = m} (omega arith))),
-    c .before .before .before .loop .inv .3)
+    let m = lo + (hi - lo) / 2 in (
+      omega arith,
+      omega arith,
+      (λ j l.
+          ⊎-elim
+          (λ e. rw e (c .if1 .taken))
+          (λ k. omega (arith, ends-rise ss es 0 (c .before .before .before .before .pre) j m k (omega arith), c .if1 .taken))
+          (eq-or-lt-of-le {n = j} {m = m} (omega arith))),
+      c .before .before .before .loop .inv .3,
+    )
 
 -- src/core.rt:18:5
 loop-less-2 : tie.Need-loop-less-2 Inv-loop μ-loop
@@ -71,7 +73,7 @@ loop-again-2 c = (omega arith, omega arith, c .before .before .before .loop .inv
 
 -- src/core.rt:12:1
 returns : tie.Need-returns Inv-loop μ-loop
-returns c = 
+returns c =
     let e : c .before .loop .lo ≡ c .before .loop .hi = omega arith in
     only _ _ _ (c .before .before .pre) _ (omega arith) (c .before .loop .inv .2) (rw e (c .before .loop .inv .3))
 

@@ -11,7 +11,7 @@ to-upper-requires : tie.Need-to-upper-requires
 to-upper-requires c κs = search needs
 
 returns : tie.Need-returns
-returns c = 
+returns c =
     below-floor 0xB5 plane0 plane1 _ _ (c .if1 .taken) ∙ unicode _ _ (c .before .to-upper .ensures)
 
 cast-low : tie.Need-cast-low
@@ -21,11 +21,11 @@ plane0-requires : tie.Need-plane0-requires
 plane0-requires c κs = search needs
 
 returns-2 : tie.Need-returns-2
-returns-2 c = 
+returns-2 c =
     c .plane0 .ensures ∙ in-plane0 0xB5 plane0 plane1 _ _ (c .before .before .if1 .left) (c .before .if2 .taken) ∙ unicode _ _ (c .before .before .before .to-upper .ensures)
 
 returns-3 : tie.Need-returns-3
-returns-3 c = 
+returns-3 c =
     past-plane0 0xB5 plane0 plane1 _ _ (c .before .if1 .left) (c .if2 .left) (plane1-none _ _) ∙ unicode _ _ (c .before .before .to-upper .ensures)
 
 pub to-title-spec : {M : Type 1} → statement M

@@ -16,7 +16,7 @@ new-requires : tie.Need-new-requires
 new-requires c κs = search needs
 
 returns : tie.Need-returns
-returns c = 
+returns c =
     let e = c .before .new .ensures ∙ ap (λ (z : ℕ). answer z 0 0) (c .before .before .to-ascii-uppercase .ensures) in
     below-floor 0xB5 plane0 plane1 _ _ (c .if1 .taken) ∙ unicode _ _ (c .before .before .before .pre) e
 
@@ -27,7 +27,7 @@ plane0-requires : tie.Need-plane0-requires
 plane0-requires c κs = search needs
 
 returns-2 : tie.Need-returns-2
-returns-2 c = 
+returns-2 c =
     let e = c .before .before .before .new .ensures ∙ ap (λ (z : ℕ). answer z 0 0) (c .before .before .before .before .to-ascii-uppercase .ensures) in
     c .plane0 .ensures ∙ in-plane0 0xB5 plane0 plane1 _ _ (c .before .before .if1 .left) (c .before .if2 .taken) ∙ unicode _ _ (c .before .before .before .before .before .pre) e
 
@@ -35,12 +35,12 @@ plane1-requires : tie.Need-plane1-requires
 plane1-requires c κs = search needs
 
 returns-3 : tie.Need-returns-3
-returns-3 c = 
+returns-3 c =
     let e = c .before .before .before .before .new .ensures ∙ ap (λ (z : ℕ). answer z 0 0) (c .before .before .before .before .before .to-ascii-uppercase .ensures) in
     c .plane1 .ensures ∙ in-plane1 0xB5 plane0 plane1 _ _ (c .before .before .before .if1 .left) (c .before .if3 .taken) ∙ unicode _ _ (c .before .before .before .before .before .before .pre) e
 
 returns-4 : tie.Need-returns-4
-returns-4 c = 
+returns-4 c =
     let e = c .before .before .before .new .ensures ∙ ap (λ (z : ℕ). answer z 0 0) (c .before .before .before .before .to-ascii-uppercase .ensures) in
     past-planes 0xB5 plane0 plane1 _ _ (c .before .before .if1 .left) (c .before .if2 .left) (c .if3 .left) ∙ unicode _ _ (c .before .before .before .before .before .pre) e
 

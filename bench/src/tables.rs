@@ -1,0 +1,47 @@
+//! Lists and tables of 10, 145, 759 and 1,023 ranges: the packer, the checker, and the search in a lent table, which checks
+//! the table each time. No Rust counterpart takes a table from outside.
+use becktrestle::tables;
+use reference::data::Data;
+use std::{hint::black_box, time::Instant};
+
+const ROUNDS: usize = 9;
+
+pub fn all() {
+    println!("\nns for a call on a list or table of so many ranges, best of {ROUNDS} rounds");
+    println!("{:>8} {:>10} {:>10} {:>10} {:>12} {:>10}", "ranges", "pack", "check", "search", "search_list", "unpack");
+    let data = Data::read();
+    let flat = |name: &str| -> Vec<u32> { data.property(name).without_ascii().flat().iter().map(|&n| n as u32).collect() };
+    let full: Vec<u32> = (0..1023).flat_map(|k| [k * 300, k * 300 + 20]).collect();
+    for list in [flat("titlecase"), flat("numeric"), flat("alphabetic"), full] {
+        one(&list);
+    }
+}
+
+fn one(list: &[u32]) {
+    let ranges = list.len() / 2;
+    let mut headers = vec![0; tables::headers_enough(ranges)];
+    let mut offsets = vec![0; tables::offsets_needed(ranges)];
+    let pack = best(|| drop(black_box(tables::pack(black_box(list), &mut headers, &mut offsets))));
+    let sizes = tables::pack(list, &mut headers, &mut offsets).expect("a good list");
+    let (headers, offsets) = (&headers[..sizes.headers], &offsets[..sizes.offsets]);
+    let mut out = vec![0; list.len()];
+    let x = list[ranges];
+    let check = best(|| drop(black_box(tables::check(black_box(headers), offsets))));
+    let search = best(|| drop(black_box(tables::search(black_box(headers), offsets, x))));
+    let search_list = best(|| drop(black_box(tables::search_list(black_box(list), x))));
+    let unpack = best(|| drop(black_box(tables::unpack(black_box(headers), offsets, &mut out))));
+    println!("{ranges:8} {pack:10.0} {check:10.0} {search:10.0} {search_list:12.0} {unpack:10.0}");
+}
+
+fn best(mut call: impl FnMut()) -> f64 {
+    const CALLS: usize = 300;
+    let mut best = f64::INFINITY;
+    for _ in 0..ROUNDS {
+        let begin = Instant::now();
+        for _ in 0..CALLS {
+            call();
+        }
+        best = best.min(begin.elapsed().as_nanos() as f64 / CALLS as f64);
+    }
+    best
+}

@@ -1,0 +1,23 @@
+-- `becktrestle::encodings::as_length` meets its contract: each field is what the answer's own methods promise. Assumes nothing.
+use borrow.Author.Needs.{needs}
+use Rattle.becktrestle.proofs.encodings.as_length.Statement.{statement}
+use Rattle.becktrestle.proofs.encodings.as_length.Tie as tie
+
+refusal-requires : tie.Need-refusal-requires
+refusal-requires c κs = search needs
+
+number-requires : tie.Need-number-requires
+number-requires c κs = search needs
+
+carried-requires : tie.Need-carried-requires
+carried-requires c κs = search needs
+
+units-requires : tie.Need-units-requires
+units-requires c κs = search needs
+
+returns : tie.Need-returns
+returns c = cc
+
+pub as-length-spec : {M : Type 1} → statement M
+as-length-spec =
+    tie.close (tie.spec refusal-requires number-requires carried-requires units-requires returns)

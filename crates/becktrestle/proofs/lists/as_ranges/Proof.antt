@@ -1,0 +1,23 @@
+-- `becktrestle::lists::as_ranges` meets its contract: each field is what the answer's own methods promise. Assumes nothing.
+use borrow.Author.Needs.{needs}
+use Rattle.becktrestle.proofs.lists.as_ranges.Statement.{statement}
+use Rattle.becktrestle.proofs.lists.as_ranges.Tie as tie
+
+refusal-requires : tie.Need-refusal-requires
+refusal-requires c κs = search needs
+
+number-requires : tie.Need-number-requires
+number-requires c κs = search needs
+
+carried-requires : tie.Need-carried-requires
+carried-requires c κs = search needs
+
+ranges-requires : tie.Need-ranges-requires
+ranges-requires c κs = search needs
+
+returns : tie.Need-returns
+returns c = cc
+
+pub as-ranges-spec : {M : Type 1} → statement M
+as-ranges-spec =
+    tie.close (tie.spec refusal-requires number-requires carried-requires ranges-requires returns)

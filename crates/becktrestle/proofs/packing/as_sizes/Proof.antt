@@ -1,0 +1,33 @@
+-- `becktrestle::packing::as_sizes` meets its contract: each field is what the answer's own methods promise. Assumes nothing.
+use borrow.Author.Needs.{needs}
+use Rattle.becktrestle.proofs.packing.as_sizes.Statement.{statement}
+use Rattle.becktrestle.proofs.packing.as_sizes.Tie as tie
+
+refusal-requires : tie.Need-refusal-requires
+refusal-requires c κs = search needs
+
+number-requires : tie.Need-number-requires
+number-requires c κs = search needs
+
+carried-requires : tie.Need-carried-requires
+carried-requires c κs = search needs
+
+headers-requires : tie.Need-headers-requires
+headers-requires c κs = search needs
+
+offsets-requires : tie.Need-offsets-requires
+offsets-requires c κs = search needs
+
+returns : tie.Need-returns
+returns c = cc
+
+pub as-sizes-spec : {M : Type 1} → statement M
+as-sizes-spec =
+    tie.close
+    (tie.spec
+    refusal-requires
+    number-requires
+    carried-requires
+    headers-requires
+    offsets-requires
+    returns)

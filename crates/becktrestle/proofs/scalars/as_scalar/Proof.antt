@@ -1,0 +1,19 @@
+-- `becktrestle::scalars::as_scalar` meets its contract: each field is what the answer's own methods promise. Assumes nothing.
+use borrow.Author.Needs.{needs}
+use Rattle.becktrestle.proofs.scalars.as_scalar.Statement.{statement}
+use Rattle.becktrestle.proofs.scalars.as_scalar.Tie as tie
+
+refusal-requires : tie.Need-refusal-requires
+refusal-requires c κs = search needs
+
+number-requires : tie.Need-number-requires
+number-requires c κs = search needs
+
+carried-requires : tie.Need-carried-requires
+carried-requires c κs = search needs
+
+returns : tie.Need-returns
+returns c = cc
+
+pub as-scalar-spec : {M : Type 1} → statement M
+as-scalar-spec = tie.close (tie.spec refusal-requires number-requires carried-requires returns)

@@ -1,0 +1,23 @@
+-- `becktrestle::unpacking::as_numbers` meets its contract: each field is what the answer's own methods promise. Assumes nothing.
+use borrow.Author.Needs.{needs}
+use Rattle.becktrestle.proofs.unpacking.as_numbers.Statement.{statement}
+use Rattle.becktrestle.proofs.unpacking.as_numbers.Tie as tie
+
+refusal-requires : tie.Need-refusal-requires
+refusal-requires c κs = search needs
+
+number-requires : tie.Need-number-requires
+number-requires c κs = search needs
+
+carried-requires : tie.Need-carried-requires
+carried-requires c κs = search needs
+
+numbers-requires : tie.Need-numbers-requires
+numbers-requires c κs = search needs
+
+returns : tie.Need-returns
+returns c = cc
+
+pub as-numbers-spec : {M : Type 1} → statement M
+as-numbers-spec =
+    tie.close (tie.spec refusal-requires number-requires carried-requires numbers-requires returns)

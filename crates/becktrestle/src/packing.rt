@@ -1,0 +1,26 @@
+// From a list to a skip table.
+ghost use mathlib.Core.Path.{_≡_};
+ghost use Rattle.pack.specs.Answers.{Packs};
+ghost use Rattle.becktrestle.specs.Results.{Crosses, sizesOf};
+use crate::Sizes;
+use pack::Packed;
+
+fn as_sizes(p: Packed) -> Sizes
+    ensures { λ r. ⌜ r ≡ sizesOf p ⌝ }
+{
+    let r = p.refusal();
+    Sizes {
+        refusal: r.number(),
+        carried: r.carried(),
+        headers: p.headers(),
+        offsets: p.offsets(),
+    }
+}
+
+// Packs a list; refuses 3, 4, 5, 6, 7, and then writes nothing.
+#[no_mangle]
+pub extern "C" fn becktrestle_pack(list: &[u32], headers: &mut [u32], offsets: &mut [u8]) -> Sizes
+    ensures { λ r. ⌜ Crosses sizesOf (λ p. Packs (now (list .entry)) (now (headers .entry)) (now (offsets .entry)) p (now (headers .exit)) (now (offsets .exit))) r ⌝ }
+{
+    as_sizes(pack::pack(list, headers, offsets))
+}
