@@ -4,3 +4,4 @@ pub mod Reader
 pub mod Expand
 pub mod Whole
 pub mod Letters
+mod Fixed

@@ -58,11 +58,11 @@ fn number_or_0(plane: u32, low: u16) -> u32
 }
 
 // The delta wraps in the low 16 bits, and the plane stays.
-fn moved_by(plane: u32, x: u16, delta: u16) -> Mapping
+fn moved_by(plane: u32, x: u16, delta: u16) -> u32
     requires { ⌜ plane < 65536 ⌝ }
-    ensures { λ r. ⌜ r ≡ answer (moved plane x delta) 0 0 ⌝ }
+    ensures { λ r. ⌜ r ≡ moved plane x delta ⌝ }
 {
-    Mapping::new(number_in(plane, std::num::wrapping_add_u16(x, delta)), 0, 0)
+    number_in(plane, std::num::wrapping_add_u16(x, delta))
 }
 
 fn several(plane: u32, first: u16, second: u16, third: u16) -> Mapping
@@ -93,7 +93,7 @@ fn single_row(
     let i = row_at(starts, ends, low);
     if i < starts.len() {
         if row_covers(starts[i], ends[i], steps[i], low) {
-            return moved_by(plane, low, deltas[i]);
+            return Mapping::new(moved_by(plane, low, deltas[i]), 0, 0);
         }
     }
     other

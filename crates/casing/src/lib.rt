@@ -1,6 +1,6 @@
 // The mapping answer, the ASCII letters, and the row reader that the three mappings share.
 ghost use mathlib.Core.Path.{_≡_};
-ghost use Rattle.casing.specs.Answers.{refused, used, answer};
+ghost use Rattle.casing.specs.Answers.{refused, Used, answer};
 use scalar::Refusal;
 use scalar::Scalar;
 use scalar::ScalarCheck;
@@ -17,7 +17,7 @@ pub struct Mapping {
 
 // How many of three numbers count: zeros are trimmed from the end, and never the first number.
 fn used_of(second: u32, third: u32) -> usize
-    ensures { λ r. ⌜ r ≡ used second third ⌝ }
+    ensures { λ r. ⌜ Used second third r ⌝ }
 {
     if third != 0 {
         return 3;

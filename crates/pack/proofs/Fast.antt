@@ -1,9 +1,9 @@
 -- The headers of a packing in a form that computes: a number is worked out before it is handed on. Data crates cite `fast`.
 -- Assumes nothing.
-use Prim.Native.Nat.{ℕ, zero, suc, _+_, _-_}
-use mathlib.Core.Path.{_≡_, _∙_, sym, refl, ap}
+use Prim.Native.Nat.{ℕ, _+_, _-_}
+use mathlib.Core.Path.{_≡_, _∙_, refl}
 use mathlib.Core.List.{List, [], _∷_}
-use mathlib.Core.Bool.{Bool, true, false, cond}
+use mathlib.Core.Bool.{cond}
 use lib.Dec.{leb}
 use Rattle.skip.proofs.Fast.{force, forced}
 use Rattle.pack.specs.Packing.{word, headersOf}

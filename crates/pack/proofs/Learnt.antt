@@ -1,11 +1,11 @@
 -- What a caller learns from the answer Done: the list is good, there was room, and the table is its packing. Assumes nothing.
-use Prim.Native.Nat.{ℕ, _+_, _%_, _≤_}
+use Prim.Native.Nat.{ℕ, _%_, _≤_}
 use mathlib.Core.Path.{_≡_, _∙_, sym, refl}
 use mathlib.Core.List.{List}
 use mathlib.Core.Bool.{Bool, true, false, cond}
 use native.Mathlib.Omega.{arith}
 use borrow.Author.Tests.{ltb-false, eqb-true}
-use lib.ListN.{length, take}
+use lib.ListN.{length}
 use lib.Dec.{ltb, eqb}
 use Rattle.scalar.specs.declared.refusal.Refusal.{Refusal}
 use Rattle.scalar.specs.declared.refusal.Refusal.the-variants as refusal
@@ -13,7 +13,6 @@ use Rattle.sets.specs.Lists.{ranges, badAt}
 use Rattle.sets.specs.Answers.{listElse}
 use Rattle.sets.proofs.Good.{Good}
 use Rattle.sets.proofs.Demand.{listed-exactly}
-use Rattle.pack.specs.Packing.{headers, offsets}
 use Rattle.pack.specs.Answers.{offsetNeed, headerNeed, packElse, Packs}
 use Rattle.pack.specs.declared.Packed.{Packed}
 use Rattle.pack.specs.declared.Packed.the-variants.{Done, Refused}

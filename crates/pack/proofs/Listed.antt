@@ -1,9 +1,9 @@
 -- The packer's theorems, from its promise: a listed list in buffers of the document's sizes is accepted, the table written
 -- passes the five rules, and the search in it follows the list. Assumes nothing.
 use Prim.Native.Nat.{ℕ, _+_, _*_, _≤_}
-use mathlib.Core.Path.{_≡_, _∙_, sym, refl, ap}
-use mathlib.Core.List.{List, [], _∷_, _++_}
-use mathlib.Core.Bool.{true, cond}
+use mathlib.Core.Path.{_≡_, _∙_, sym, refl}
+use mathlib.Core.List.{List}
+use mathlib.Core.Bool.{true}
 use mathlib.Core.Logic.{_↔_}
 use native.Mathlib.Omega.{arith}
 use borrow.Author.Tests.{le-ltb}
@@ -87,7 +87,8 @@ pub packs-listed : (l hs os : List ℕ) (r : Packed) (hs′ os′ : List ℕ) �
 packs-listed l hs os r hs′ os′ p w room-os room-hs =
     let g = listed-exactly l .0 w in
     let d = done l hs os g room-os room-hs in
-    listed-by l hs os r hs′ os′ g (p .answers ∙ sym (d .answers)) (p .leaves-headers ∙ sym (d .leaves-headers)) (p .leaves-offsets ∙ sym (d .leaves-offsets))
+    listed-by l hs os r hs′ os′ g (p .answers ∙ sym (d .answers)) (p .leaves-headers ∙ sym (d .leaves-headers))
+    (p .leaves-offsets ∙ sym (d .leaves-offsets))
 
 -- a caller that has room for 2n+1 in both buffers is not refused
 pub packs-sized : (l hs os : List ℕ) (r : Packed) (hs′ os′ : List ℕ) → Packs l hs os r hs′ os′ → Listed l

@@ -1,14 +1,13 @@
 -- What the packer writes for an accepted list is a table that keeps the rules, and its boundaries are the list's and the
 -- closing one: the walk over the written offsets retraces the boundaries one by one. Assumes nothing.
-use Prim.Native.Nat.{ℕ, suc, _+_, _-_, _*_, _%_, _/_, _<_, _≤_}
+use Prim.Native.Nat.{ℕ, _+_, _-_, _<_, _≤_}
 use mathlib.Core.Path.{_≡_, _∙_, sym, refl, ap}
 use mathlib.Core.List.{List, [], _∷_, _++_}
-use mathlib.Core.Bool.{Bool, true, false, cond, _&&_}
+use mathlib.Core.Bool.{true, _&&_}
 use mathlib.Core.Logic.{⊎-elim}
 use native.Mathlib.Omega.{arith}
 use borrow.Author.Tests.{le-leb, lt-leb, lt-ltb, eq-eqb, ne-eqb}
-use lib.ListN.{length, getD}
-use lib.Dec.{leb, ltb, eqb}
+use lib.ListN.{length}
 use Rattle.sets.specs.Lists.{edges}
 use Rattle.sets.proofs.Decide.{split}
 use Rattle.sets.proofs.Good.{Good, edges-length}
@@ -24,11 +23,13 @@ use Rattle.pack.proofs.Accepted.{headers-runs, edges-order}
 use Rattle.pack.proofs.Runs.{start-word, sum-word, firstSum, restOf, by-two, order-on, first-fits, end-headers, ends-past}
 
 module _ (n : ℕ) where
-  W5-last : (i at h o : ℕ) (hs os : List ℕ) → i + 1 ≡ runEnd n hs → at ≤ prefixSum h → W5 n (i + 1) (prefixSum h) hs os ≡ true → W5 n i at (h ∷ hs) (o ∷ os) ≡ true
+  W5-last : (i at h o : ℕ) (hs os : List ℕ) → i + 1 ≡ runEnd n hs → at ≤ prefixSum h
+      → W5 n (i + 1) (prefixSum h) hs os ≡ true → W5 n i at (h ∷ hs) (o ∷ os) ≡ true
   unfolding W5
   W5-last i at h o hs os e l w = simp (eq-eqb _ _ e, le-leb _ _ l) w
 
-  W5-on : (i at h o : ℕ) (hs os : List ℕ) → (i + 1 ≡ runEnd n hs → ⊥) → W5 n (i + 1) (at + o) (h ∷ hs) os ≡ true → W5 n i at (h ∷ hs) (o ∷ os) ≡ true
+  W5-on : (i at h o : ℕ) (hs os : List ℕ) → (i + 1 ≡ runEnd n hs → ⊥)
+      → W5 n (i + 1) (at + o) (h ∷ hs) os ≡ true → W5 n i at (h ∷ hs) (o ∷ os) ≡ true
   unfolding W5
   W5-on i at h o hs os e w = simp (ne-eqb _ _ e) w
 

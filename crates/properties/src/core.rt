@@ -1,13 +1,22 @@
-// The properties of a number to 0x10FFFF, which the entries give of a scalar value. ASCII and every number below a
-// table's first are answered without it, as in Rust's char/methods.rs.
+// The properties that have a table, of a number to 0x10FFFF. ASCII and every number below the table's first are answered
+// without the table, as in Rust's char/methods.rs.
 ghost use mathlib.Core.Path.{_≡_};
 ghost use Prim.Native.Nat.{_≤_};
-ghost use Rattle.sets.specs.Lists.{holds};
-ghost use Rattle.properties.specs.Properties.{alphabetic, lowercase, uppercase, titlecase, numeric, whitespace, control, cased, alphanumeric, otherSpaces};
+ghost use Rattle.properties.specs.Properties.{alphabetic, lowercase, uppercase, titlecase, numeric, cased, alphanumeric};
 use scalar::ascii::is_ascii_digit;
 use scalar::ascii::is_ascii_lowercase;
 use scalar::ascii::is_ascii_uppercase;
-use scalar::ascii::is_between;
+
+// The first number of each table.
+const FIRST_ALPHABETIC: u32 = 0xAA;
+
+const FIRST_LOWERCASE: u32 = 0xAA;
+
+const FIRST_UPPERCASE: u32 = 0xC0;
+
+const FIRST_TITLECASE: u32 = 0x1C5;
+
+const FIRST_NUMERIC: u32 = 0xB2;
 
 pub fn alphabetic(n: u32) -> bool
     requires { ⌜ n ≤ 0x10FFFF ⌝ }
@@ -19,7 +28,7 @@ pub fn alphabetic(n: u32) -> bool
     if is_ascii_uppercase(n) {
         return true;
     }
-    if n < 0xAA {
+    if n < FIRST_ALPHABETIC {
         return false;
     }
     table_alphabetic::core::lookup(n)
@@ -31,7 +40,7 @@ pub fn lowercase(n: u32) -> bool
     if is_ascii_lowercase(n) {
         return true;
     }
-    if n < 0xAA {
+    if n < FIRST_LOWERCASE {
         return false;
     }
     table_lowercase::core::lookup(n)
@@ -43,7 +52,7 @@ pub fn uppercase(n: u32) -> bool
     if is_ascii_uppercase(n) {
         return true;
     }
-    if n < 0xC0 {
+    if n < FIRST_UPPERCASE {
         return false;
     }
     table_uppercase::core::lookup(n)
@@ -53,7 +62,7 @@ pub fn titlecase(n: u32) -> bool
     requires { ⌜ n ≤ 0x10FFFF ⌝ }
     ensures { λ r. ⌜ r ≡ titlecase n ⌝ }
 {
-    if n < 0x1C5 {
+    if n < FIRST_TITLECASE {
         return false;
     }
     table_titlecase::core::lookup(n)
@@ -66,7 +75,7 @@ pub fn numeric(n: u32) -> bool
     if is_ascii_digit(n) {
         return true;
     }
-    if n < 0xB2 {
+    if n < FIRST_NUMERIC {
         return false;
     }
     table_numeric::core::lookup(n)
@@ -95,40 +104,4 @@ pub fn alphanumeric(n: u32) -> bool
         return true;
     }
     numeric(n)
-}
-
-// The whitespace past ASCII, few enough for a match on the number itself.
-fn other_whitespace(n: u32) -> bool
-    ensures { λ r. ⌜ r ≡ holds otherSpaces n ⌝ }
-{
-    match n {
-        0x85 | 0xA0 | 0x1680 | 0x202F | 0x205F | 0x3000 => true,
-        0x2000..=0x200A => true,
-        0x2028..=0x2029 => true,
-        _ => false,
-    }
-}
-
-pub fn whitespace(n: u32) -> bool
-    ensures { λ r. ⌜ r ≡ whitespace n ⌝ }
-{
-    if is_between(9, 13, n) {
-        return true;
-    }
-    if n == 0x20 {
-        return true;
-    }
-    if n < 0x85 {
-        return false;
-    }
-    other_whitespace(n)
-}
-
-pub fn control(n: u32) -> bool
-    ensures { λ r. ⌜ r ≡ control n ⌝ }
-{
-    if n <= 0x1F {
-        return true;
-    }
-    is_between(0x7F, 0x9F, n)
 }

@@ -1,22 +1,24 @@
 // The nine properties of Unicode 17.0.0, each over any number: refuses 1, then 2, else yes or no.
 ghost use mathlib.Core.Path.{_≡_};
 ghost use Rattle.scalar.specs.Scalars.{answered};
-ghost use Rattle.properties.specs.Properties.{alphabetic, lowercase, uppercase, titlecase, cased, numeric, alphanumeric, whitespace, control};
+ghost use Rattle.properties.specs.Properties.{alphabetic, lowercase, uppercase, titlecase, cased, numeric, alphanumeric};
 
+mod control;
 pub mod core;
+mod whitespace;
 
+pub use control::is_control;
 use core::alphabetic;
 use core::alphanumeric;
 use core::cased;
-use core::control;
 use core::lowercase;
 use core::numeric;
 use core::titlecase;
 use core::uppercase;
-use core::whitespace;
 use scalar::Answer;
 use scalar::Scalar;
 use scalar::ScalarCheck;
+pub use whitespace::is_whitespace;
 
 // Whether n is Unicode's Alphabetic; refuses 1, then 2.
 pub fn is_alphabetic(n: u32) -> Answer
@@ -93,26 +95,4 @@ pub fn is_alphanumeric(n: u32) -> Answer
         return Answer::Refused(check.refusal());
     };
     Answer::Is(alphanumeric(s.value))
-}
-
-// Whether n is Unicode's White_Space; refuses 1, then 2.
-pub fn is_whitespace(n: u32) -> Answer
-    ensures { λ r. ⌜ r ≡ answered whitespace n ⌝ }
-{
-    let check = Scalar::new(n);
-    let ScalarCheck::Valid(s) = check else {
-        return Answer::Refused(check.refusal());
-    };
-    Answer::Is(whitespace(s.value))
-}
-
-// Whether n is category Cc; refuses 1, then 2.
-pub fn is_control(n: u32) -> Answer
-    ensures { λ r. ⌜ r ≡ answered control n ⌝ }
-{
-    let check = Scalar::new(n);
-    let ScalarCheck::Valid(s) = check else {
-        return Answer::Refused(check.refusal());
-    };
-    Answer::Is(control(s.value))
 }

@@ -12,7 +12,7 @@ use lib.Seq.{slice, drop-drop, take-nil}
 use lib.Dec.{ltb}
 use Rattle.skip.specs.Headers.{startIndex, prefixSum, runEnd}
 use Rattle.skip.specs.Table.{walk, readsFrom, boundaries, reads}
-use Rattle.sets.specs.Boundaries.{count}
+use Rattle.sets.specs.Boundaries.{count, odd, member}
 use Rattle.skip.specs.Rules.{W1, W2, W3, W4, W5, broken}
 use Rattle.skip.specs.Seek.{Run, prev, upto}
 use Rattle.sets.proofs.Decide.{and-left, and-right}
@@ -149,8 +149,11 @@ answered (h ∷ hs) os x k b r =
     rw (add-one k) (record { low = y .low; high = y .high; before = y .before; counted = omega (arith, c ∙ y .counted); read = y .read })
 
 module _ (hs os : List ℕ) (x b e q i : ℕ) (a : Answered hs os x b e q) (is : i ≡ b + upto x q (slice b (e - 1) os)) where
-  pub stopped : i < e - 1 → reads hs os x ≡ i - b + 1
-  stopped l = a .read ∙ min-eq-right (omega arith) ∙ omega arith
+  pub parity : odd i ≡ member (boundaries hs os) x
+  parity = ap odd (is ∙ sym (a .counted))
 
-  pub ran-out : i ≡ e - 1 → reads hs os x ≡ e - 1 - b
-  ran-out l = a .read ∙ min-eq-left (omega arith) ∙ omega arith
+  pub stopped : i < e - 1 → i - b + 1 ≡ reads hs os x
+  stopped l = sym (a .read ∙ min-eq-right (omega arith) ∙ omega arith)
+
+  pub ran-out : i ≡ e - 1 → e - 1 - b ≡ reads hs os x
+  ran-out l = sym (a .read ∙ min-eq-left (omega arith) ∙ omega arith)

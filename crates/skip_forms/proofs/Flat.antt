@@ -1,13 +1,13 @@
 -- The records as flat pairs, and the buffer that holds them: one more record takes the place of two zeros. Assumes nothing.
-use Prim.Native.Nat.{ℕ, zero, suc, _+_, _-_, _*_, _<_, _≤_}
+use Prim.Native.Nat.{ℕ, suc, _+_, _-_, _*_, _<_, _≤_}
 use mathlib.Core.Path.{_≡_, refl, sym, _∙_, ap}
-use mathlib.Core.List.{List, [], _∷_, _++_, append-assoc, append-nil}
+use mathlib.Core.List.{List, [], _∷_, _++_, append-assoc}
 use native.Mathlib.Numerals.{add-one}
 use native.Mathlib.Omega.{arith}
 use lib.ListN.{length, getD, take, set, replicate, length-append, length-replicate}
 use lib.Seq.{set-at, take-suc, take-at, take-length, length-take-le}
 use Rattle.skip_forms.specs.declared.records.Range.{Range}
-use Rattle.skip_forms.specs.Records.{flatten, taken, filled}
+use Rattle.skip_forms.specs.Records.{flatten, filled}
 
 -- what stands where no record is
 abbrev pub none : Range

@@ -31,3 +31,10 @@ pub fn search_view<'a, 'b>(v: TableView<'a, 'b>, x: u32) -> Found
 {
     search(v.headers, v.offsets, x)
 }
+
+// The search of the two slices by way of their view: for a caller that has plain slices.
+pub fn search_by_view(headers: &[u32], offsets: &[u8], x: u32) -> Found
+    ensures { λ r. ⌜ r ≡ finds (now (headers .entry)) (now (offsets .entry)) x ⌝ }
+{
+    search_view(view(headers, offsets), x)
+}

@@ -1,2 +1,3 @@
 pub mod Right
 pub mod Whole
+pub mod Packed

@@ -1,11 +1,12 @@
--- One turn of the unpacker's loops. Assumes nothing.
-use Prim.Native.Nat.{ℕ, zero, suc, _+_, _-_, _<_, _≤_}
-use mathlib.Core.Path.{_≡_, _∙_, sym, refl, ap}
+-- One turn of the unpacker's loops: the walk's next boundary, and what it lists; and two numbers written at once.
+-- Assumes nothing.
+use Prim.Native.Nat.{ℕ, _+_, _-_, _<_, _≤_}
+use mathlib.Core.Path.{_≡_, _∙_, refl, ap}
 use mathlib.Core.List.{List, [], _∷_, _++_}
 use mathlib.Core.Bool.{Bool, true, false, cond}
 use native.Mathlib.Omega.{arith}
 use lib.ListN.{length, getD, drop, take, set}
-use lib.Dec.{leb, eqb}
+use lib.Dec.{eqb}
 use Rattle.skip.specs.Table.{walk}
 use Rattle.skip.specs.Headers.{prefixSum, runEnd}
 use Rattle.sets.proofs.Places.{from, gone}
@@ -77,4 +78,6 @@ module _ (t d : List ℕ) (m v w : ℕ) (rest : List ℕ) (next : drop m t ≡ v
   pub put-two : set (set (take m t ++ drop m d) m v) (m + 1) w ≡ take (m + 2) t ++ drop (m + 2) d
   put-two =
       let e : m + 1 + 1 ≡ m + 2 = omega arith in
-      ap (λ (l : List ℕ). set l (m + 1) w) (put t d m v (w ∷ rest) next room) ∙ put t d (m + 1) w rest (on t d m v (w ∷ rest) next room) room ∙ rw e refl
+      ap (λ (l : List ℕ). set l (m + 1) w) (put t d m v (w ∷ rest) next room)
+      ∙ put t d (m + 1) w rest (on t d m v (w ∷ rest) next room) room
+      ∙ rw e refl

@@ -1,6 +1,6 @@
 -- Unpacking what the packer wrote gives the list back, range by range: no two boundaries of an accepted list are equal in a
 -- pair, and only a range that ends at 0x10FFFF leaves its pair open. Assumes nothing.
-use Prim.Native.Nat.{ℕ, _+_, _-_, _%_, _/_, _<_, _≤_}
+use Prim.Native.Nat.{ℕ, _+_, _-_, _%_, _≤_}
 use mathlib.Core.Path.{_≡_, _∙_, sym, refl}
 use mathlib.Core.List.{List, [], _∷_, _++_}
 use mathlib.Core.Logic.{⊎-elim}
@@ -56,10 +56,12 @@ back i low (a ∷ (b ∷ l)) e h =
     let q : b + 1 - 1 ≡ b = omega arith in
     let f : length l % 2 ≡ 0 = omega arith in
     let n : (a ≡ b + 1 → ⊥) = λ m. omega arith in
-    rw (edges-pair a b l, kept-in a ((b + 1) ∷ (edges l ++ 0x1FFFFF ∷ [])) u)
+    let rest = edges l ++ 0x1FFFFF ∷ [] in
+    rw (edges-pair a b l, kept-in a ((b + 1) ∷ rest) u)
     (⊎-elim
-    (λ k. rw (kept-in (b + 1) (edges l ++ 0x1FFFFF ∷ []) k, pair-apart a (b + 1) (kept (edges l ++ 0x1FFFFF ∷ [])) n, q, back (i + 1) (b + 2) l f (z .3)) refl)
-    (λ k. rw (kept-out (b + 1) (edges l ++ 0x1FFFFF ∷ []) k) (last-range (i + 1) a b l (omega arith) f (z .3)))
+    (λ k.
+    rw (kept-in (b + 1) rest k, pair-apart a (b + 1) (kept rest) n, q, back (i + 1) (b + 2) l f (z .3)) refl)
+    (λ k. rw (kept-out (b + 1) rest k) (last-range (i + 1) a b l (omega arith) f (z .3)))
     (split (b + 1) 0x10FFFF))
 
 -- unpacking what the packer wrote gives the list back

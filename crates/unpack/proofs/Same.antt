@@ -1,14 +1,13 @@
--- Boundary by boundary or in pairs, the list is the same. Assumes nothing.
-use Prim.Native.Nat.{ℕ, zero, suc, _+_, _-_, _<_, _≤_}
-use mathlib.Core.Path.{_≡_, _∙_, sym, refl, ap}
+-- Boundary by boundary, as the loops list it, or in pairs, as the document says it, the list is the same. Assumes nothing.
+use Prim.Native.Nat.{ℕ, _-_, _<_, _≤_}
+use mathlib.Core.Path.{_≡_, _∙_, sym, refl}
 use mathlib.Core.List.{List, [], _∷_}
-use mathlib.Core.Bool.{Bool, true, false, not, cond, _&&_}
-use mathlib.Core.Logic.{_⊎_, inl, inr, ⊎-elim}
+use mathlib.Core.Bool.{Bool, true, false}
+use mathlib.Core.Logic.{⊎-elim}
 use borrow.Author.Tests.{le-leb, lt-leb, eq-eqb, ne-eqb}
-use lib.Dec.{leb, eqb}
 use Rattle.sets.proofs.Decide.{split, same}
 use Rattle.unpack.specs.Unpacking.{kept, paired}
-use Rattle.unpack.specs.Flow.{closes, opens, firstOf, flow}
+use Rattle.unpack.specs.Flow.{flow}
 
 pub kept-in : (b : ℕ) (bs : List ℕ) → b ≤ 0x10FFFF → kept (b ∷ bs) ≡ b ∷ kept bs
 unfolding kept
@@ -17,10 +16,6 @@ kept-in b bs h = simp (le-leb _ _ h)
 pub kept-out : (b : ℕ) (bs : List ℕ) → 0x10FFFF < b → kept (b ∷ bs) ≡ kept bs
 unfolding kept
 kept-out b bs h = simp (lt-leb _ _ h)
-
-both-nothing : (o : Bool) → (o && false) ≡ false
-both-nothing true = refl
-both-nothing false = refl
 
 -- above the last number nothing changes
 skip-high : (o : Bool) (a b : ℕ) (bs : List ℕ) → 0x10FFFF < b → flow o a (b ∷ bs) ≡ flow o a bs

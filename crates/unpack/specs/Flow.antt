@@ -1,7 +1,7 @@
 -- The unpacked list boundary by boundary; serves the crate itself. Assumes nothing: these are definitions.
 use Prim.Native.Nat.{ℕ, _+_, _-_}
 use mathlib.Core.List.{List, [], _∷_}
-use mathlib.Core.Bool.{Bool, true, false, not, cond, _&&_}
+use mathlib.Core.Bool.{Bool, not, cond, _&&_}
 use lib.ListN.{drop, getD}
 use lib.Dec.{leb, eqb}
 use Rattle.skip.specs.Headers.{prefixSum, runEnd}

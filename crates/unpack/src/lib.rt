@@ -107,7 +107,8 @@ fn less_one(b: u32) -> u32
     b - 1
 }
 
-// How many numbers the table unpacks to.
+// How many numbers the table unpacks to. On the way, a is where a pair is open if inside holds, at the sum so far in run k,
+// and m counts the numbers.
 fn count_numbers(headers: &[u32], offsets: &[u8]) -> usize
     requires { ⌜ length (now offsets) ≤ 2048 ⌝ }
     ensures { λ r. ⌜ r ≡ length (flow false 0 (boundaries (now (headers .entry)) (now (offsets .entry)))) ⌝ }
@@ -141,6 +142,7 @@ fn count_numbers(headers: &[u32], offsets: &[u8]) -> usize
     m
 }
 
+// Writes them: the same walk, with a store for each number.
 fn write_numbers(headers: &[u32], offsets: &[u8], out: &mut [u32])
     requires { ⌜ (length (now offsets) ≤ 2048) × (length (flow false 0 (boundaries (now headers) (now offsets))) ≤ length (now out)) ⌝ }
     ensures { λ _. ⌜ now (out .exit) ≡ over (flow false 0 (boundaries (now (headers .entry)) (now (offsets .entry)))) (now (out .entry)) ⌝ }

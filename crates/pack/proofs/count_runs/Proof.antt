@@ -1,10 +1,10 @@
 -- `pack::count_runs` meets its contract. The invariant: the boundaries from j on are in order after the one before, and the
 -- runs counted with those that they still make are one more than there are. The measure is what is left. Assumes nothing.
-use Prim.Native.Nat.{_≤_, _-_, _<_, _+_, _%_}
+use Prim.Native.Nat.{_≤_, _-_, _+_}
 use mathlib.Core.Path.{_≡_, _∙_, refl, ap}
 use native.Mathlib.Omega.{arith}
 use borrow.Author.Needs.{needs}
-use lib.ListN.{length, drop, getD}
+use lib.ListN.{length, drop}
 use Rattle.pack.specs.Places.{edgesFrom, InOrder, runsOf}
 use Rattle.pack.proofs.Turns.{Turn, turn, order-here, runs-small, runs-large, runs-end, edges-gone}
 use Rattle.pack.proofs.count_runs.Statement.{statement}

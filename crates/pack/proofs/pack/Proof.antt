@@ -1,6 +1,6 @@
 -- `pack::pack` meets its contract: a refusal of the list's check is handed on; of an accepted list each test decides its
 -- place in the promise, and the writers' own promises give the buffers. Assumes nothing.
-use Prim.Native.Nat.{_≤_, _<_, _+_, _*_}
+use Prim.Native.Nat.{ℕ, _+_, _*_, _≤_}
 use mathlib.Core.Path.{_≡_, _∙_, sym, ap}
 use native.Mathlib.Omega.{arith}
 use borrow.Author.Needs.{needs}
@@ -11,7 +11,8 @@ use Rattle.sets.proofs.Good.{Good}
 use Rattle.sets.proofs.Answers.{accepted-good}
 use Rattle.pack.specs.Packing.{headersOf}
 use Rattle.pack.specs.Places.{edgesFrom}
-use Rattle.pack.specs.Answers.{offsetNeed, headerNeed}
+use Rattle.pack.specs.Answers.{headerNeed}
+use Rattle.pack.specs.declared.Packed.the-variants.{Done}
 use Rattle.pack.proofs.Accepted.{places-edges, places-order, places-runs}
 use Rattle.pack.proofs.Outcome.{refused-list, refused-offsets, refused-headers, done}
 use Rattle.pack.proofs.pack.Statement.{statement}
@@ -88,12 +89,18 @@ returns-4 : tie.Need-returns-4
 returns-4 c =
     let wrote = c .before .before in
     let before = wrote .before .before .before .before .before .before in
-    let list = before .before .before .before .before .before .before .before .before .before .before .args .list .now in
-    let a = accepted (before .before .before .before) in
+    let told = before .before .before .before in
+    let list = told .before .before .before .before .before .before .before .args .list .now in
+    let n = told .before .check .given .0 .0 in
+    let a = accepted told in
     let runs = before .before .count-runs .ensures ∙ places-runs list (a .0) in
     let edges = places-edges list (a .0) in
-    rw (runs, a .1, rw edges at (wrote .write-headers .ensures), rw edges at (wrote .before .before .before .before .write-offsets .ensures))
-    (done list _ _ (a .0) (rw (a .1) at (before .before .before .if1 .left)) (rw runs at (before .if2 .left)))
+    let d = done list _ _ (a .0) (rw (a .1) at (before .before .before .if1 .left)) (rw runs at (before .if2 .left)) in
+    record {
+      answers = ap (λ (k : ℕ). Done k (2 * n + 1)) runs ∙ ap (λ (k : ℕ). Done (headerNeed list) (2 * k + 1)) (a .1) ∙ d .answers;
+      leaves-headers = rw edges at (wrote .write-headers .ensures) ∙ d .leaves-headers;
+      leaves-offsets = rw edges at (wrote .before .before .before .before .write-offsets .ensures) ∙ d .leaves-offsets;
+    }
 
 pub pack-spec : {M : Type 1} → statement M
 pack-spec =

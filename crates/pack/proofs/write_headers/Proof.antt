@@ -1,11 +1,11 @@
 -- `pack::write_headers` meets its contract. The invariant: the buffer is the first k of the headers to be written, then what
 -- it was, and the headers from k on are those of the boundaries from j on. The measure is what is left. Assumes nothing.
-use Prim.Native.Nat.{ℕ, _≤_, _-_, _<_, _+_, _%_}
+use Prim.Native.Nat.{ℕ, _≤_, _-_, _+_}
 use mathlib.Core.Path.{_≡_, _∙_, sym, refl, ap}
 use mathlib.Core.List.{List, [], _∷_, _++_}
 use native.Mathlib.Omega.{arith}
 use borrow.Author.Needs.{needs}
-use lib.ListN.{length, drop, take, getD, length-set, length-drop}
+use lib.ListN.{length, drop, take, length-set, length-drop}
 use Rattle.pack.specs.Packing.{headersOf, word}
 use Rattle.pack.specs.Places.{edgesFrom, InOrder}
 use Rattle.pack.proofs.Turns.{Turn, turn, order-here, edges-gone, headers-small, headers-large, headers-end}

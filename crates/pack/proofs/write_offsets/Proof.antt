@@ -1,12 +1,12 @@
 -- `pack::write_offsets` meets its contract. The invariant: the buffer is the first i of the offsets to be written, then what
 -- it was, and the offsets from i on are those of the boundaries from i on. The measure is what is left. Assumes nothing.
-use Prim.Native.Nat.{ℕ, _≤_, _-_, _<_, _+_, _%_}
+use Prim.Native.Nat.{ℕ, _≤_, _-_, _+_}
 use mathlib.Core.Path.{_≡_, _∙_, refl, ap}
-use mathlib.Core.List.{List, [], _∷_, _++_}
+use mathlib.Core.List.{List, [], _++_}
 use native.Mathlib.Omega.{arith}
 use borrow.Author.Needs.{needs}
-use lib.ListN.{length, drop, take, getD, length-set}
-use Rattle.pack.specs.Packing.{offsetsOf, small}
+use lib.ListN.{length, drop, take, length-set}
+use Rattle.pack.specs.Packing.{offsetsOf}
 use Rattle.pack.specs.Places.{edgesFrom, InOrder}
 use Rattle.pack.proofs.Turns.{Turn, turn, order-here, edges-gone, offsets-cons, offsets-end, offsets-length, places-length}
 use Rattle.pack.proofs.Store.{put, whole, on}
@@ -34,7 +34,7 @@ turned : (c : tie.After-edge Inv-loop μ-loop)
 turned c =
     let list = c .before .before .before .before .before .args .list .now in
     let l = c .before .before .loop in
-    turn list (l .i) (l .before) (c .edge .result) (c .before .loop-test .taken) (c .edge .ensures) (l .inv .2)
+    turn list (l .i) (l .before) (c .edge .result) (omega arith) (c .edge .ensures) (l .inv .2)
 
 loop-holds : tie.Need-loop-holds Inv-loop μ-loop
 loop-holds c = (search needs, refl, c .before .before .pre .0, refl, refl)
@@ -43,7 +43,7 @@ edge-requires : tie.Need-edge-requires Inv-loop μ-loop
 edge-requires c κs =
     let list = c .before .before .before .before .args .list .now in
     let l = c .before .loop in
-    (search needs, omega (arith, order-here list (l .i) (l .before) (c .loop-test .taken) (l .inv .2) .1))
+    (search needs, omega (arith, order-here list (l .i) (l .before) (omega arith) (l .inv .2) .1))
 
 sub-offset-of : tie.Need-sub-offset-of Inv-loop μ-loop
 sub-offset-of c = omega (arith, turned c .low)
@@ -88,7 +88,7 @@ returns c =
     let list = start .args .list .now in
     let old = start .args .offsets .now in
     let l = c .before .loop in
-    let next = l .inv .4 ∙ ap (offsetsOf (l .before)) (edges-gone list (l .i) (c .loop-test .left)) ∙ offsets-end (l .before) in
+    let next = l .inv .4 ∙ ap (offsetsOf (l .before)) (edges-gone list (l .i) (omega arith)) ∙ offsets-end (l .before) in
     let room : length (target list) ≤ length old = omega (arith, target-length list, start .pre .1) in
     let all : length (target list) ≡ l .i + 1 = omega (arith, target-length list) in
     rw (l .inv .3) (put (target list) old (l .i) 0 [] next room ∙ whole (target list) old (l .i + 1) all)

@@ -1,6 +1,8 @@
 -- `skip::search` meets its contract: a refusal of the checker is handed on; of an accepted table the tests and the
 -- search's own promise give the answer. Assumes nothing.
-use mathlib.Core.Path.{_≡_, _∙_, sym, refl, ap}
+use Prim.Native.Nat.{_<_, _≤_}
+use mathlib.Core.Path.{_∙_, sym, ap}
+use native.Mathlib.Omega.{arith}
 use borrow.Author.Needs.{needs}
 use borrow.Author.Tests.{le-ltb, lt-ltb}
 use Rattle.skip.specs.Answers.{checkRefusal}
@@ -30,19 +32,21 @@ returns c =
 returns-2 : tie.Need-returns-2
 returns-2 c =
     let told = c .before .enum-told .given in
+    let above : 0x10FFFF < c .before .before .before .before .before .before .args .x = omega arith in
     accepted-as _ _ found.Refused _ _ (sym (told .1) ∙ c .before .before .before .check .ensures)
-    (simp (lt-ltb _ _ (c .if1 .taken)))
+    (simp (lt-ltb 0x10FFFF _ above))
 
 skip-search-requires : tie.Need-skip-search-requires
 skip-search-requires c κs =
     let told = c .before .enum-told .given in
-    (accepted-rules _ _ (sym (told .1) ∙ c .before .before .before .check .ensures), c .if1 .left)
+    (accepted-rules _ _ (sym (told .1) ∙ c .before .before .before .check .ensures), omega arith)
 
 returns-3 : tie.Need-returns-3
 returns-3 c =
     let told = c .before .before .enum-told .given in
+    let inside : c .before .before .before .before .before .before .before .args .x ≤ 0x10FFFF = omega (arith, c .before .if1 .left) in
     accepted-as _ _ found.Refused _ _ (sym (told .1) ∙ c .before .before .before .before .check .ensures)
-    (simp (le-ltb _ _ (c .before .if1 .left), c .skip-search .ensures .0, c .skip-search .ensures .1))
+    (simp (le-ltb 0x10FFFF _ inside, c .skip-search .ensures .0, c .skip-search .ensures .1))
 
 pub search-spec : {M : Type 1} → statement M
 search-spec =

@@ -1,9 +1,9 @@
 -- `unpack::count_numbers` meets its contract. The invariant: the numbers counted and those that the rest of the walk lists
 -- are all there are, and the boundary so far has its bound. The measure is the offsets left. Assumes nothing.
-use Prim.Native.Nat.{ℕ, _+_, _*_, _-_, _≤_, _<_}
+use Prim.Native.Nat.{_+_, _*_, _-_, _≤_}
 use mathlib.Core.Path.{_≡_, _∙_, sym, refl, ap}
-use mathlib.Core.List.{List, []}
-use mathlib.Core.Bool.{true, false}
+use mathlib.Core.List.{[]}
+use mathlib.Core.Bool.{false}
 use mathlib.Core.Logic.{⊎-elim}
 use native.Mathlib.Omega.{arith}
 use borrow.Author.Needs.{needs}

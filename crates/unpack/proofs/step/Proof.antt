@@ -1,6 +1,5 @@
 -- `unpack::step` meets its contract: the test says whether this is the run's last offset. Assumes nothing.
-use Prim.Native.Nat.{_+_, _≤_, _<_}
-use mathlib.Core.Path.{_≡_, _∙_, sym, refl}
+use mathlib.Core.Path.{_∙_, sym, refl}
 use native.Mathlib.Omega.{arith}
 use borrow.Author.Needs.{needs}
 use borrow.Author.Tests.{eq-eqb, ne-eqb}
@@ -34,12 +33,15 @@ widen-requires : tie.Need-widen-requires
 widen-requires c κs = search needs
 
 add-t16 : tie.Need-add-t16
-add-t16 c = omega (arith, c .widen .ensures, c .before .before .before .before .pre .2, c .before .before .before .before .fits .o)
+add-t16 c =
+    let start = c .before .before .before .before in
+    omega (arith, c .widen .ensures, start .pre .2, start .fits .o)
 
 returns-2 : tie.Need-returns-2
 returns-2 c =
+    let start = c .before .before .before .before in
     let t = ne-eqb _ _ (λ e. c .before .if1 .left (e ∙ sym (c .before .before .run-end .ensures))) in
-    (rw (c .widen .ensures, t) refl, rw t refl, omega (arith, c .widen .ensures, c .before .before .before .before .pre .2, c .before .before .before .before .fits .o))
+    (rw (c .widen .ensures, t) refl, rw t refl, omega (arith, c .widen .ensures, start .pre .2, start .fits .o))
 
 pub step-spec : {M : Type 1} → statement M
 step-spec =

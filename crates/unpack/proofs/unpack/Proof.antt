@@ -1,9 +1,8 @@
 -- `unpack::unpack` meets its contract: a refusal of the checker is handed on; of an accepted table the test of the buffer
 -- decides, and the writer's own promise gives the buffer. Assumes nothing.
-use Prim.Native.Nat.{ℕ, _≤_, _<_}
+use Prim.Native.Nat.{ℕ, _≤_}
 use mathlib.Core.Path.{_≡_, _∙_, sym, ap}
 use mathlib.Core.List.{List}
-use native.Mathlib.Omega.{arith}
 use borrow.Author.Needs.{needs}
 use lib.ListN.{length}
 use Rattle.sets.proofs.Decide.{and-right}

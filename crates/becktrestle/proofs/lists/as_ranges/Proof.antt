@@ -1,5 +1,7 @@
 -- `becktrestle::lists::as_ranges` meets its contract: each field is what the answer's own methods promise. Assumes nothing.
+use mathlib.Core.Path.{_∙_, ap}
 use borrow.Author.Needs.{needs}
+use Rattle.scalar.specs.Refusals.{number, carried}
 use Rattle.becktrestle.proofs.lists.as_ranges.Statement.{statement}
 use Rattle.becktrestle.proofs.lists.as_ranges.Tie as tie
 
@@ -16,7 +18,13 @@ ranges-requires : tie.Need-ranges-requires
 ranges-requires c κs = search needs
 
 returns : tie.Need-returns
-returns c = cc
+returns c =
+    λ i.
+    record {
+      refusal = (c .before .before .number .ensures ∙ ap number (c .before .before .before .refusal .ensures)) i;
+      carried = (c .before .carried .ensures ∙ ap carried (c .before .before .before .refusal .ensures)) i;
+      count = c .ranges .ensures i;
+    }
 
 pub as-ranges-spec : {M : Type 1} → statement M
 as-ranges-spec =

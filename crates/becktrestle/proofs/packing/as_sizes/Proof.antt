@@ -1,5 +1,7 @@
 -- `becktrestle::packing::as_sizes` meets its contract: each field is what the answer's own methods promise. Assumes nothing.
+use mathlib.Core.Path.{_∙_, ap}
 use borrow.Author.Needs.{needs}
+use Rattle.scalar.specs.Refusals.{number, carried}
 use Rattle.becktrestle.proofs.packing.as_sizes.Statement.{statement}
 use Rattle.becktrestle.proofs.packing.as_sizes.Tie as tie
 
@@ -19,7 +21,14 @@ offsets-requires : tie.Need-offsets-requires
 offsets-requires c κs = search needs
 
 returns : tie.Need-returns
-returns c = cc
+returns c =
+    λ i.
+    record {
+      refusal = (c .before .before .before .number .ensures ∙ ap number (c .before .before .before .before .refusal .ensures)) i;
+      carried = (c .before .before .carried .ensures ∙ ap carried (c .before .before .before .before .refusal .ensures)) i;
+      headers = c .before .headers .ensures i;
+      offsets = c .offsets .ensures i;
+    }
 
 pub as-sizes-spec : {M : Type 1} → statement M
 as-sizes-spec =

@@ -1,5 +1,7 @@
 -- `becktrestle::tables::as_sought` meets its contract: each field is what the answer's own methods promise. Assumes nothing.
+use mathlib.Core.Path.{_∙_, ap}
 use borrow.Author.Needs.{needs}
+use Rattle.scalar.specs.Refusals.{number, carried}
 use Rattle.becktrestle.proofs.tables.as_sought.Statement.{statement}
 use Rattle.becktrestle.proofs.tables.as_sought.Tie as tie
 
@@ -19,7 +21,14 @@ yes-requires : tie.Need-yes-requires
 yes-requires c κs = search needs
 
 returns : tie.Need-returns
-returns c = cc
+returns c =
+    λ i.
+    record {
+      refusal = (c .before .before .before .number .ensures ∙ ap number (c .before .before .before .before .refusal .ensures)) i;
+      carried = (c .before .before .carried .ensures ∙ ap carried (c .before .before .before .before .refusal .ensures)) i;
+      read = c .before .read .ensures i;
+      yes = c .yes .ensures i;
+    }
 
 pub as-sought-spec : {M : Type 1} → statement M
 as-sought-spec =

@@ -1,5 +1,7 @@
 -- `becktrestle::unpacking::as_numbers` meets its contract: each field is what the answer's own methods promise. Assumes nothing.
+use mathlib.Core.Path.{_∙_, ap}
 use borrow.Author.Needs.{needs}
+use Rattle.scalar.specs.Refusals.{number, carried}
 use Rattle.becktrestle.proofs.unpacking.as_numbers.Statement.{statement}
 use Rattle.becktrestle.proofs.unpacking.as_numbers.Tie as tie
 
@@ -16,7 +18,13 @@ numbers-requires : tie.Need-numbers-requires
 numbers-requires c κs = search needs
 
 returns : tie.Need-returns
-returns c = cc
+returns c =
+    λ i.
+    record {
+      refusal = (c .before .before .number .ensures ∙ ap number (c .before .before .before .refusal .ensures)) i;
+      carried = (c .before .carried .ensures ∙ ap carried (c .before .before .before .refusal .ensures)) i;
+      count = c .numbers .ensures i;
+    }
 
 pub as-numbers-spec : {M : Type 1} → statement M
 as-numbers-spec =

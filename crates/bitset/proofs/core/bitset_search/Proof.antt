@@ -1,23 +1,18 @@
-use mathlib.Core.Path.{_∙_, ap, refl}
+-- `bitset::core::bitset_search` meets its contract: the requirement puts each index inside its table, and the word read
+-- is the bucket's. Assumes nothing.
+use mathlib.Core.Path.{_∙_, ap}
 use Prim.Native.Nat.{ℕ, _+_, _*_, _/_, _%_, _<_}
 use lib.ListN.{length, getD}
-use borrow.Author.Tests.{lt-ltb, le-ltb}
 use Rattle.bitset.specs.Bitsets.{bitset, wordAt, bit}
 use Rattle.bitset.proofs.Tables.{below-at, in-map, past-map}
 use native.Mathlib.Omega.{arith}
 use borrow.Author.Needs.{needs}
 use Rattle.bitset.proofs.core.bitset_search.Statement.{statement}
 use Rattle.bitset.proofs.core.bitset_search.Tie as tie
-use Rattle.bitset.proofs.core.bitset_search.Reads as reads
-use Rattle.bitset.proofs.core.bitset_search.Lts as lts
-use Rattle.bitset.proofs.core.wide.Reads as wide-reads
-use Rattle.bitset.proofs.core.word_at.Reads as word-at-reads
 
--- src/core.rt:65:18
 cast-bucket : tie.Need-cast-bucket
 cast-bucket c = search needs
 
--- src/core.rt:68:9
 returns : tie.Need-returns
 returns c = past-map _ _ (c .if1 .taken)
 
@@ -30,31 +25,24 @@ chunk-inside c =
     let b = below-at (length (s .args .chunks .now) / 16) (s .args .map .now) (n / 64 / 16) (s .pre .map-in) p in
     omega (arith, b, c .wide .ensures)
 
--- src/core.rt:70:19
 shared-slice-read-wide : tie.Need-shared-slice-read-wide
 shared-slice-read-wide c = search needs
 
--- src/core.rt:70:14
 wide-requires : tie.Need-wide-requires
 wide-requires c κs = search needs
 
--- src/core.rt:70:14
 mul-at : tie.Need-mul-at
 mul-at c = omega (arith, chunk-inside c)
 
--- src/core.rt:70:14
 add-at : tie.Need-add-at
 add-at c = omega (arith, chunk-inside c)
 
--- src/core.rt:71:55
 shared-slice-read-wide-2 : tie.Need-shared-slice-read-wide-2
 shared-slice-read-wide-2 c = omega (arith, chunk-inside (c .before))
 
--- src/core.rt:71:50
 wide-requires-2 : tie.Need-wide-requires-2
 wide-requires-2 c κs = search needs
 
--- src/core.rt:71:9
 word-at-requires : tie.Need-word-at-requires
 word-at-requires c κs =
     let s = c .before .before .before .before .before .before .before .before .before .before in
@@ -65,15 +53,12 @@ word-at-requires c κs =
     let b = below-at bound (s .args .chunks .now) at (s .pre .chunks-in) inside in
     (omega (arith, b, c .wide2 .ensures), s .pre .real-in, s .pre .mapping-in)
 
--- src/core.rt:72:15
 cast-result : tie.Need-cast-result
 cast-result c = search needs
 
--- src/core.rt:72:6
 shr-result : tie.Need-shr-result
 shr-result c = search needs
 
--- src/core.rt:61:1
 returns-2 : tie.Need-returns-2
 returns-2 c =
     let s = c .before .before .before .before .before .before .before .before .before .before .before in

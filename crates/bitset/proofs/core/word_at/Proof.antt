@@ -1,28 +1,22 @@
+-- `bitset::core::word_at` meets its contract: an index below the number of canonical words picks one of them; any other
+-- a pair, whose word is inside by the requirement. Assumes nothing.
 use mathlib.Core.Path.{_∙_, ap, refl}
 use Prim.Native.Nat.{ℕ, _-_, _<_}
 use lib.ListN.{length, getD}
-use borrow.Author.Tests.{lt-ltb, le-ltb}
+use borrow.Author.Tests.{lt-ltb}
 use Rattle.bitset.specs.Bitsets.{wordAt, inverted, turned}
 use Rattle.bitset.proofs.Tables.{below-at, pair-at}
 use native.Mathlib.Omega.{arith}
 use borrow.Author.Needs.{needs}
 use Rattle.bitset.proofs.core.word_at.Statement.{statement}
 use Rattle.bitset.proofs.core.word_at.Tie as tie
-use Rattle.bitset.proofs.core.word_at.Reads as reads
-use Rattle.bitset.proofs.core.word_at.Lts as lts
-use Rattle.bitset.proofs.core.invert.Reads as invert-reads
-use Rattle.bitset.proofs.core.turn.Reads as turn-reads
-use Rattle.bitset.proofs.core.wide.Reads as wide-reads
 
--- src/core.rt:51:16
 mul-result : tie.Need-mul-result
 mul-result c = search needs
 
--- src/core.rt:51:16
 shared-slice-read-result : tie.Need-shared-slice-read-result
 shared-slice-read-result c = search needs
 
--- src/core.rt:51:9
 returns : tie.Need-returns
 unfolding wordAt
 returns c = rw (lt-ltb _ _ (c .before .if1 .taken)) refl
@@ -36,39 +30,30 @@ word-inside c =
     let b = below-at (length can) (s .args .real .now) (s .args .index - length can) (s .pre .1) p in
     omega (arith, b, c .wide .ensures)
 
--- src/core.rt:53:16
 sub-pair : tie.Need-sub-pair
 sub-pair c = search needs
 
--- src/core.rt:54:31
 shared-slice-read-wide : tie.Need-shared-slice-read-wide
 shared-slice-read-wide c = search needs
 
--- src/core.rt:54:26
 wide-requires : tie.Need-wide-requires
 wide-requires c κs = search needs
 
--- src/core.rt:54:16
 mul-word : tie.Need-mul-word
 mul-word c = omega (arith, word-inside c)
 
--- src/core.rt:54:16
 shared-slice-read-word : tie.Need-shared-slice-read-word
 shared-slice-read-word c = word-inside (c .before)
 
--- src/core.rt:55:15
 shared-slice-read-how : tie.Need-shared-slice-read-how
 shared-slice-read-how c = search needs
 
--- src/core.rt:57:15
 invert-requires : tie.Need-invert-requires
 invert-requires c κs = search needs
 
--- src/core.rt:57:5
 turn-requires : tie.Need-turn-requires
 turn-requires c κs = search needs
 
--- src/core.rt:46:1
 returns-2 : tie.Need-returns-2
 returns-2 c =
     let s = c .before .before .before .before .before .before .before .before .before .before in

@@ -1,5 +1,5 @@
+-- `casing::ascii::to_ascii_lowercase` meets its contract: the test bounds the number, so that the sum fits. Assumes nothing.
 use mathlib.Core.Path.{_∙_, sym}
-use mathlib.Core.Bool.{_&&_}
 use borrow.Author.Tests.{leb-true}
 use lib.Dec.{leb}
 use Rattle.sets.proofs.Decide.{and-right}
@@ -7,23 +7,16 @@ use native.Mathlib.Omega.{arith}
 use borrow.Author.Needs.{needs}
 use Rattle.casing.proofs.ascii.to_ascii_lowercase.Statement.{statement}
 use Rattle.casing.proofs.ascii.to_ascii_lowercase.Tie as tie
-use Rattle.casing.proofs.ascii.to_ascii_lowercase.Reads as reads
-use Rattle.casing.proofs.ascii.to_ascii_lowercase.Lts as lts
-use Rattle.scalar.proofs.ascii.is_ascii_uppercase.Reads as is-ascii-uppercase-reads
 
--- src/ascii.rt:10:8
 is-ascii-uppercase-requires : tie.Need-is-ascii-uppercase-requires
 is-ascii-uppercase-requires c κs = search needs
 
--- src/ascii.rt:11:16
 add-result : tie.Need-add-result
 add-result c = let n = c .before .before .args .n in omega (arith, leb-true n 0x5A (and-right (leb 0x41 n) (leb n 0x5A) (sym (c .before .is-ascii-uppercase .ensures) ∙ c .if1 .taken)))
 
--- src/ascii.rt:11:9
 returns : tie.Need-returns
 returns c = simp (sym (c .before .is-ascii-uppercase .ensures) ∙ c .if1 .taken)
 
--- src/ascii.rt:7:1
 returns-2 : tie.Need-returns-2
 returns-2 c = simp (sym (c .before .is-ascii-uppercase .ensures) ∙ c .if1 .left)
 

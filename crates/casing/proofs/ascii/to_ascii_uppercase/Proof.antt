@@ -1,5 +1,5 @@
+-- `casing::ascii::to_ascii_uppercase` meets its contract: the test bounds the number, so that the difference is right. Assumes nothing.
 use mathlib.Core.Path.{_∙_, sym}
-use mathlib.Core.Bool.{_&&_}
 use borrow.Author.Tests.{leb-true}
 use lib.Dec.{leb}
 use Rattle.sets.proofs.Decide.{and-left}
@@ -7,23 +7,16 @@ use native.Mathlib.Omega.{arith}
 use borrow.Author.Needs.{needs}
 use Rattle.casing.proofs.ascii.to_ascii_uppercase.Statement.{statement}
 use Rattle.casing.proofs.ascii.to_ascii_uppercase.Tie as tie
-use Rattle.casing.proofs.ascii.to_ascii_uppercase.Reads as reads
-use Rattle.casing.proofs.ascii.to_ascii_uppercase.Lts as lts
-use Rattle.scalar.proofs.ascii.is_ascii_lowercase.Reads as is-ascii-lowercase-reads
 
--- src/ascii.rt:19:8
 is-ascii-lowercase-requires : tie.Need-is-ascii-lowercase-requires
 is-ascii-lowercase-requires c κs = search needs
 
--- src/ascii.rt:20:16
 sub-result : tie.Need-sub-result
 sub-result c = let n = c .before .before .args .n in omega (arith, leb-true 0x61 n (and-left (leb 0x61 n) (leb n 0x7A) (sym (c .before .is-ascii-lowercase .ensures) ∙ c .if1 .taken)))
 
--- src/ascii.rt:20:9
 returns : tie.Need-returns
 returns c = simp (sym (c .before .is-ascii-lowercase .ensures) ∙ c .if1 .taken)
 
--- src/ascii.rt:16:1
 returns-2 : tie.Need-returns-2
 returns-2 c = simp (sym (c .before .is-ascii-lowercase .ensures) ∙ c .if1 .left)
 

@@ -1,10 +1,10 @@
+-- `casing_lower::core::to_lower` meets its contract: its four ways out are the cases of the definition, over the ASCII letters. Assumes nothing.
 use Prim.Native.Nat.{ℕ}
-use mathlib.Core.Path.{_≡_, _∙_, ap}
+use mathlib.Core.Path.{_∙_, ap}
 use Rattle.casing.specs.Answers.{answer}
 use Rattle.casing.proofs.Letters.{below-floor, in-plane0, in-plane1, past-planes}
 use Rattle.casing_lower.specs.Planes.{plane0, plane1}
 use Rattle.casing_lower.proofs.Same.{unicode}
-use native.Mathlib.Omega.{arith}
 use borrow.Author.Needs.{needs}
 use Rattle.casing_lower.proofs.core.to_lower.Statement.{statement}
 use Rattle.casing_lower.proofs.core.to_lower.Tie as tie

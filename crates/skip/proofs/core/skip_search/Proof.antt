@@ -1,16 +1,14 @@
 -- `skip::core::skip_search` meets its contract: the run of x is found, and what the rules say of it (`Answered`) turns the
 -- place where the walk stops into the count of boundaries and the offsets read. Assumes nothing.
 use Prim.Native.Nat.{_+_}
-use mathlib.Core.Path.{_≡_, _∙_, sym, ap}
 use native.Mathlib.Omega.{arith}
 use borrow.Author.Needs.{needs}
 use lib.ListN.{length, getD, drop}
-use Rattle.sets.specs.Boundaries.{odd}
 use Rattle.sets.proofs.Decide.{and-left}
 use Rattle.skip.specs.Headers.{startIndex, runEnd}
 use Rattle.skip.specs.Rules.{W1, W2, W3, W4, W5, sized}
 use Rattle.skip.specs.Seek.{prev}
-use Rattle.skip.proofs.Sought.{Answered, answered, stopped, ran-out}
+use Rattle.skip.proofs.Sought.{Answered, answered, parity, stopped, ran-out}
 use Rattle.skip.proofs.Lowest5.{all, size-low}
 use Rattle.skip.proofs.core.skip_search.Statement.{statement}
 use Rattle.skip.proofs.core.skip_search.Tie as tie
@@ -75,7 +73,7 @@ returns : tie.Need-returns
 returns c =
     let a = known (c .before .before) in
     let i = c .before .within .ensures .0 in
-    (sym (ap odd (a .counted ∙ sym i)), sym (stopped _ _ _ _ _ _ _ a i (c .if1 .taken)))
+    (parity _ _ _ _ _ _ _ a i, stopped _ _ _ _ _ _ _ a i (c .if1 .taken))
 
 sub-read-2 : tie.Need-sub-read-2
 sub-read-2 c = search needs
@@ -83,10 +81,8 @@ sub-read-2 c = search needs
 returns-2 : tie.Need-returns-2
 returns-2 c =
     let a = known (c .before .before) in
-    let i = c .before .within .ensures .0 in (
-      sym (ap odd (a .counted ∙ sym i)),
-      sym (ran-out _ _ _ _ _ _ _ a i (omega (arith, c .if1 .left, c .before .within .ensures .2))),
-    )
+    let i = c .before .within .ensures .0 in
+    (parity _ _ _ _ _ _ _ a i, ran-out _ _ _ _ _ _ _ a i (omega (arith, c .if1 .left, c .before .within .ensures .2)))
 
 pub skip-search-spec : {M : Type 1} → statement M
 skip-search-spec =

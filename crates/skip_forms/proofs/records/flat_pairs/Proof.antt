@@ -1,8 +1,8 @@
 -- `skip_forms::records::flat_pairs` meets its contract: a walk of its MIR, by hand. The invariant: after i records the array holds the pairs of the first i, and zeros after them. A turn reads record i and stores its two numbers; the records that are left measure the loop.
 -- The array's local is written whole, then held as a row of elements through the loop, and read whole at the end.
 -- Assumes nothing.
-use mathlib.Core.Path.{_≡_, refl, sym, _∙_, ap, subst}
-use Prim.Native.Nat.{ℕ, _<_, _≤_, zero-le, _^_, _*_, _+_, _-_, min}
+use mathlib.Core.Path.{_≡_, refl, sym, _∙_, ap}
+use Prim.Native.Nat.{ℕ, _<_, _≤_, zero-le, _^_, _*_, _+_, _-_}
 use mathlib.Core.Bool.{Bool, true, false}
 use mathlib.Core.List.{List, [], _∷_}
 use mathlib.Core.WellFounded.{WellFounded, InvImage·wf}
@@ -24,7 +24,7 @@ use ghost.Atoms.{Atoms, sem}
 use contract.Monad.{Fun, fact}
 use contract.Running.{givenOf, tables, tablesOf}
 use sound.WpLaws.{fmOf, WpFn-mono}
-use types.Kit.{Given, Item, ‵, raw, _⊛_, ⋆, some, later, atRet, _$_, _∵_, !, qed, by, move, keep, drop, use1, use2, split, join, pick, rewrite, fsplit, fjoin, suffices, frame, await, done}
+use types.Kit.{Given, Item, ‵, raw, _⊛_, ⋆, some, later, atRet, _$_, _∵_, !, qed, by, move, drop, use1, use2, split, join, pick, rewrite, fsplit, fjoin, suffices, frame, await, done}
 use types.Part.{whole as itself, sub, look-in, rep}
 use types.Run.{look, look-raw, init, store, forget, stop, hop, fld, from, load, lit, of-opd, bin, addr, and-then, no-more, assigns, assigns-last, land, first, blocks, loops, again, stays, leaves-loop, exec, returns, enter, alloc1, alloc0, params1, pass1, pass0, free1, free0}
 use denote.Exit.{yes}
@@ -50,7 +50,7 @@ use denote.Triple.Walked.{says, Stays, stay-none-slice, walkOf, Walks, ends-at, 
 use Rattle.skip_forms.specs.Records.{taken, filled}
 use Rattle.skip_forms.specs.declared.records.Range.{Range}
 use Rattle.skip_forms.proofs.Flat.{none, length-filled, filled-more, filled-none}
-use Rattle.skip_forms.proofs.Filled.{arrayTy, whole, zeros, is-typed, zeros-typed, zeros-row, row-whole}
+use Rattle.skip_forms.proofs.Filled.{arrayTy, whole, is-typed, zeros-typed, zeros-row, row-whole}
 use Rattle.skip_forms.proofs.records.Range as T
 use Rattle.skip_forms.proofs.records.Range.Laws as T′
 use Rattle.skip_forms.proofs.records.at_most_max as cap

@@ -1,0 +1,47 @@
+-- How much room an unpacked list may need, so that a caller can size the buffer before the call: one boundary for each
+-- offset, and only an open last pair adds a number. Assumes nothing.
+use Prim.Native.Nat.{ℕ, _+_, _≤_}
+use mathlib.Core.List.{List, [], _∷_}
+use mathlib.Core.Logic.{⊎-elim}
+use native.Mathlib.Omega.{arith}
+use lib.ListN.{length}
+use Rattle.sets.proofs.Decide.{split, same}
+use Rattle.skip.specs.Headers.{prefixSum, runEnd}
+use Rattle.skip.specs.Table.{walk, boundaries}
+use Rattle.skip.proofs.Meaning.{walk-last, walk-on}
+use Rattle.unpack.specs.Unpacking.{kept, paired, list}
+use Rattle.unpack.proofs.Same.{kept-in, kept-out, pair-apart, pair-same}
+use Rattle.unpack.proofs.SameSet.{walk-none, walk-bare}
+
+walk-few : (n : ℕ) (os : List ℕ) (i at : ℕ) (hs : List ℕ) → length (walk n i at hs os) ≤ length os
+walk-few n [] i at hs = rw (walk-none n i at hs) (omega arith)
+walk-few n (o ∷ os) i at [] = rw (walk-bare n i at o os) (omega arith)
+walk-few n (o ∷ os) i at (h ∷ hs) =
+    ⊎-elim
+    (λ e. rw (walk-last n i at h o hs os e) (omega (arith, walk-few n os (i + 1) (prefixSum h) hs)))
+    (λ e. rw (walk-on n i at h o hs os e) (omega (arith, walk-few n os (i + 1) (at + o) (h ∷ hs))))
+    (same (i + 1) (runEnd n hs))
+
+kept-few : (bs : List ℕ) → length (kept bs) ≤ length bs
+unfolding kept
+kept-few [] = omega arith
+kept-few (b ∷ bs) =
+    ⊎-elim
+    (λ h. rw (kept-in b bs h) (omega (arith, kept-few bs)))
+    (λ h. rw (kept-out b bs h) (omega (arith, kept-few bs)))
+    (split b 0x10FFFF)
+
+paired-few : (bs : List ℕ) → length (paired bs) ≤ length bs + 1
+unfolding paired
+paired-few [] = omega arith
+paired-few (a ∷ []) = omega arith
+paired-few (a ∷ (b ∷ bs)) =
+    ⊎-elim
+    (λ e. rw (pair-same a b bs e) (omega (arith, paired-few bs)))
+    (λ e. rw (pair-apart a b bs e) (omega (arith, paired-few bs)))
+    (same a b)
+
+-- one number more than there are offsets is always room enough
+pub numbers-suffice : (hs os : List ℕ) → length (list hs os) ≤ length os + 1
+numbers-suffice hs os =
+    omega (arith, paired-few (kept (boundaries hs os)), kept-few (boundaries hs os), walk-few (length os) os 0 0 hs)
