@@ -21,15 +21,25 @@ fn one(list: &[u32]) {
     let ranges = list.len() / 2;
     let mut headers = vec![0; tables::headers_enough(ranges)];
     let mut offsets = vec![0; tables::offsets_needed(ranges)];
-    let pack = best(|| drop(black_box(tables::pack(black_box(list), &mut headers, &mut offsets))));
+    let pack = best(|| {
+        let _ = black_box(tables::pack(black_box(list), &mut headers, &mut offsets));
+    });
     let sizes = tables::pack(list, &mut headers, &mut offsets).expect("a good list");
     let (headers, offsets) = (&headers[..sizes.headers], &offsets[..sizes.offsets]);
     let mut out = vec![0; list.len()];
     let x = list[ranges];
-    let check = best(|| drop(black_box(tables::check(black_box(headers), offsets))));
-    let search = best(|| drop(black_box(tables::search(black_box(headers), offsets, x))));
-    let search_list = best(|| drop(black_box(tables::search_list(black_box(list), x))));
-    let unpack = best(|| drop(black_box(tables::unpack(black_box(headers), offsets, &mut out))));
+    let check = best(|| {
+        let _ = black_box(tables::check(black_box(headers), offsets));
+    });
+    let search = best(|| {
+        let _ = black_box(tables::search(black_box(headers), offsets, x));
+    });
+    let search_list = best(|| {
+        let _ = black_box(tables::search_list(black_box(list), x));
+    });
+    let unpack = best(|| {
+        let _ = black_box(tables::unpack(black_box(headers), offsets, &mut out));
+    });
     println!("{ranges:8} {pack:10.0} {check:10.0} {search:10.0} {search_list:12.0} {unpack:10.0}");
 }
 
