@@ -15,6 +15,19 @@ pub fn all() {
     for list in [flat("titlecase"), flat("numeric"), flat("alphabetic"), full] {
         one(&list);
     }
+    checker();
+}
+
+/// The checker over tables of one run: its time grows with the number of offsets.
+fn checker() {
+    println!("\nns for a check of a table of so many offsets, best of {ROUNDS} rounds");
+    for offsets in [256, 1024, 2048] {
+        let table = (vec![0x1F_FFFF], vec![1; offsets]);
+        let check = best(|| {
+            let _ = black_box(tables::check(black_box(&table.0), &table.1));
+        });
+        println!("{offsets:8} {check:10.0}");
+    }
 }
 
 fn one(list: &[u32]) {
