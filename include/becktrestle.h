@@ -26,6 +26,9 @@
  * BUFFERS. A slice is a pointer and a number of elements. The pointer must be aligned for its element and not NULL even
  * where the length is 0: any aligned address will do there, as that of a local. Buffers that are lent to one call must not
  * overlap. On success every element past the reported length is as it was.
+ *
+ * ROOM. Code and tables are 28 KB. The deepest stack, measured over every number to 0x10FFFF: is_printable 8.3 KB, the
+ * mappings 3.4 KB, every other property 1.9 KB, all else below 1 KB. Time: docs/PERFORMANCE.md.
  */
 #ifndef BECKTRESTLE_H
 #define BECKTRESTLE_H
@@ -44,7 +47,7 @@ extern "C" {
 #define BECKTRESTLE_OFFSETS_NEEDED(ranges) (2 * (size_t)(ranges) + 1)
 /* How many headers are enough for every list of so many ranges (proved: pack's law headers-suffice). */
 #define BECKTRESTLE_HEADERS_ENOUGH(ranges) (2 * (size_t)(ranges) + 1)
-/* How many numbers are enough to unpack a table of so many offsets. */
+/* How many numbers are enough to unpack a table of so many offsets (proved: unpack's law numbers-suffice). */
 #define BECKTRESTLE_NUMBERS_ENOUGH(offsets) ((size_t)(offsets) + 1)
 /* How many elements are enough to encode any scalar value. */
 #define BECKTRESTLE_UTF8_ENOUGH 4
