@@ -127,7 +127,7 @@ fn put_told(out: &mut [u8], at: usize, n: u32) -> usize {
     put_answers(out, at, n)
 }
 
-pub fn put_described(out: &mut [u8], at: usize, n: u32) -> usize {
+pub(crate) fn put_described(out: &mut [u8], at: usize, n: u32) -> usize {
     let at = put(out, at, b"number=");
     let at = put_hex(out, at, n as u64);
     let at = put_told(out, at, n);

@@ -25,7 +25,7 @@ pub struct Reading {
 }
 
 impl Reading {
-    pub fn new() -> Self {
+    pub(crate) fn new() -> Self {
         Reading {
             lines: 0,
             name: 0,
@@ -181,7 +181,7 @@ fn read_lines(piece: &mut [u8], line: &mut [u8], name: &mut [u8], numbers: &mut 
 }
 
 // Reads standard input to its end.
-pub fn read_list(name: &mut [u8], numbers: &mut [u32]) -> Reading {
+pub(crate) fn read_list(name: &mut [u8], numbers: &mut [u32]) -> Reading {
     let mut piece = io::large_buffer();
     let mut line = [0u8; MOST_LINE];
     read_lines(&mut piece, &mut line, name, numbers)

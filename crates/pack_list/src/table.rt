@@ -128,7 +128,7 @@ fn put_answer(out: &mut [u8], read: Reading, name: &[u8], numbers: &[u32]) -> us
     put_table(out, read.ranges, &name[0..k], &numbers[0..m])
 }
 
-pub fn answer(read: Reading, name: &[u8], numbers: &[u32]) {
+pub(crate) fn answer(read: Reading, name: &[u8], numbers: &[u32]) {
     let mut out = io::large_buffer();
     let n = put_answer(&mut out, read, name, numbers);
     write(&out, n);

@@ -21,11 +21,11 @@ pub struct Tally {
 }
 
 // One more, and no wrap.
-pub fn after(n: u64) -> u64 {
+pub(crate) fn after(n: u64) -> u64 {
     if n < u64::MAX { n + 1 } else { n }
 }
 
-pub fn unlisted() -> Want {
+pub(crate) fn unlisted() -> Want {
     Want {
         listed: false,
         to: [0, 0, 0],
@@ -115,7 +115,7 @@ fn compared(mut t: Tally, kind: u8, n: u32, want: Want) -> Tally {
 }
 
 // Every number from one up to, not including, another.
-pub fn compare(start: Tally, kind: u8, from: u32, to: u32, want: Want) -> Tally {
+pub(crate) fn compare(start: Tally, kind: u8, from: u32, to: u32, want: Want) -> Tally {
     let mut t = start;
     let mut n = from;
     while n < to {

@@ -112,7 +112,7 @@ fn mapping_row(line: &[u8]) -> Row {
     listed(n, n, [x, y, z], 3)
 }
 
-pub fn read(kind: u8, line: &[u8]) -> Row {
+pub(crate) fn read(kind: u8, line: &[u8]) -> Row {
     if kind < FIRST_MAPPING {
         return property_row(line);
     }

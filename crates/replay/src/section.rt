@@ -25,7 +25,7 @@ pub struct Replay {
 }
 
 impl Replay {
-    pub fn new() -> Self {
+    pub(crate) fn new() -> Self {
         let here = none();
         let in_all = none();
         Replay {
@@ -219,7 +219,7 @@ fn row_taken(mut r: Replay, line: &[u8]) -> Replay {
 }
 
 // The next line; after one that is out of place nothing is looked at.
-pub fn next(mut r: Replay, line: &[u8]) -> Replay {
+pub(crate) fn next(mut r: Replay, line: &[u8]) -> Replay {
     if r.out_of_place != 0 {
         return r;
     }
@@ -245,7 +245,7 @@ fn closed(r: Replay) -> Replay {
 }
 
 // What is left to compare, and the last line.
-pub fn finish(r: Replay) {
+pub(crate) fn finish(r: Replay) {
     let r = closed(r);
     let mut out = [0u8; 128];
     let n = put_end(&mut out, r);
