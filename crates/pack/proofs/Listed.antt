@@ -21,7 +21,7 @@ use Rattle.skip.specs.Answers.{checks, finds, foundYes}
 use Rattle.skip.specs.declared.Checked.the-variants as checked
 use Rattle.skip.specs.declared.Found.the-variants as found
 use Rattle.skip.proofs.Answers.{table-good}
-use Rattle.skip.proofs.Stated.{Keeps, accepts-exactly}
+use Rattle.skip_rules.proofs.Stated.{Keeps, accepts-exactly}
 use Rattle.pack.specs.Packing.{headers, offsets}
 use Rattle.pack.specs.Answers.{offsetNeed, headerNeed, packedHeaders, packedOffsets, Packs}
 use Rattle.pack.specs.declared.Packed.{Packed}

@@ -7,6 +7,4 @@ pub mod Sought
 pub mod Lowest5
 pub mod Fast
 pub mod Answers
-pub mod Stated
-mod Literal
 mod Fixed

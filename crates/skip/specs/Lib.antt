@@ -1,6 +1,5 @@
 pub mod Headers
 pub mod Table
 pub mod Rules
-pub mod Stated
 pub mod Answers
 pub mod Seek

@@ -20,7 +20,7 @@ use Rattle.skip.specs.Table.{walk, boundaries}
 use Rattle.skip.specs.Rules.{W1, W2, W3, W4, W5, broken}
 use Rattle.skip.proofs.Meaning.{walk-last, walk-on, rule-last, rule-on}
 use Rattle.skip.proofs.Lowest5.{all}
-use Rattle.skip.proofs.Stated.{Keeps, accepts-exactly}
+use Rattle.skip_rules.proofs.Stated.{Keeps, accepts-exactly}
 use Rattle.unpack.specs.Unpacking.{kept, paired, list}
 use Rattle.unpack.specs.Answers.{unpackedNumbers, Unpacks}
 use Rattle.unpack.specs.declared.Unpacked.{Unpacked}

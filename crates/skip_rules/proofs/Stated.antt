@@ -9,17 +9,17 @@ use native.Mathlib.Omega.{arith}
 use borrow.Author.Tests.{lt-ltb, le-ltb, le-leb, eq-eqb, eqb-true}
 use lib.ListN.{length}
 use Rattle.sets.proofs.Decide.{split, same, and-left, and-right, and-both}
 use Rattle.skip.specs.Rules.{sized, W1, W2, W3, W4, W5, lowestOf, broken}
-use Rattle.skip.specs.Stated.{RuleW1, RuleW2, RuleW3, RuleW4, RuleW5, Rule, Lowest, start}
+use Rattle.skip_rules.specs.Stated.{RuleW1, RuleW2, RuleW3, RuleW4, RuleW5, Rule, Lowest, start}
 use Rattle.scalar.specs.declared.refusal.Refusal.the-variants as refusal
 use Rattle.skip.specs.declared.Checked.the-variants as checked
 use Rattle.skip.specs.declared.Found.the-variants as found
 use Rattle.sets.specs.Boundaries.{member}
 use Rattle.skip.specs.Table.{boundaries, reads}
 use Rattle.skip.specs.Answers.{checks, finds}
 use Rattle.skip.proofs.Answers.{accepted-rules, accepted-as, table-good, table-refused}
 use Rattle.skip.proofs.Lowest5.{size-low, size-high, all, none}
-use Rattle.skip.proofs.Literal.{starts-say, starts-said, sums-say, sums-said, fit-say, fit-said}
+use Rattle.skip_rules.proofs.Literal.{starts-say, starts-said, sums-say, sums-said, fit-say, fit-said}
 
 size-said : (n : ℕ) → 1 ≤ n → n ≤ 2048 → sized n ≡ true
 size-said n l m = rw (lt-ltb 0 n l, le-leb n 2048 m) refl

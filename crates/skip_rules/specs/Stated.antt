@@ -1,13 +1,13 @@
 -- The rules W1 to W5 in document 01's own words, header by header and run by run. proofs/Stated.antt shows each of them
--- equivalent to its test in Rules.antt. Assumes nothing: these are definitions.
+-- equivalent to its test in crates/skip/specs/Rules.antt. Assumes nothing: these are definitions.
 use Prim.Native.Nat.{ℕ, zero, suc, _+_, _-_, _<_, _≤_}
 use mathlib.Core.Path.{_≡_}
 use mathlib.Core.List.{List, [], _∷_}
 use lib.ListN.{length, getD, drop}
 use lib.Seq.{slice}
 use Rattle.sets.specs.Orders.{Rises}
 use Rattle.skip.specs.Headers.{startIndex, prefixSum, runEnd}
 use Rattle.skip.specs.Seek.{prev}
 
 -- run k's start and prefix sum
 abbrev pub start : List ℕ → ℕ → ℕ

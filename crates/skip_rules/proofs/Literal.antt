@@ -11,12 +11,12 @@ use lib.ListN.{length, getD, drop, take, length-drop}
 use lib.Seq.{slice, drop-drop}
 use lib.Dec.{leb}
 use Rattle.sets.proofs.Decide.{and-left, and-right, and-both}
 use Rattle.skip.specs.Headers.{startIndex, prefixSum, runEnd}
 use Rattle.skip.specs.Rules.{W3, W4, W5}
 use Rattle.skip.specs.Seek.{prev}
-use Rattle.skip.specs.Stated.{sum, total, butLast, RuleW3, RuleW4, RuleW5}
+use Rattle.skip_rules.specs.Stated.{sum, total, butLast, RuleW3, RuleW4, RuleW5}
 use Rattle.skip.proofs.Sought.{starts-on, starts-end, part, shift}
 use Rattle.skip.proofs.Sums.{sums-mono, last-high}
 
 -- W3
 starts-rise : (n : ℕ) (hs : List ℕ) (k : ℕ) → W3 n hs ≡ true → suc k < length hs → startIndex (getD hs k 0) < startIndex (getD hs (suc k) 0)

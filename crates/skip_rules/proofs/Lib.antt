@@ -1,0 +1,2 @@
+pub mod Stated
+mod Literal
