@@ -1,40 +1,40 @@
-/* The far side of the bridge: an x86-64 program with the library in it. It reads requests from standard input, makes the
- * calls, and writes the replies to standard output. Every slice is lent from a copy of its own between guard bytes: a write
- * past a slice, or into one that is only read, ends it. */
+/* The far side of the bridge: an x86-64 program with the library in it. It reads requests from the memory that it shares with
+ * the near side, whose descriptor is its argument, makes the calls, and writes the replies. Every slice is lent from a copy of
+ * its own between guard bytes: a write past a slice, or into one that is only read, ends it. */
 #include "wire.h"
 
 #include <stdio.h>
+#include <stdlib.h>
 #include <string.h>
+#include <sys/mman.h>
+#include <unistd.h>
 
-#define GUARD_BYTES 64
-#define GUARD 0xA5
+#define GUARD_BYTES 16
+static const unsigned char guard[GUARD_BYTES] = "between guards..";
 
 typedef struct lent {
-    unsigned char *whole; /* guard, the slice, guard */
-    unsigned char *slice;
+    unsigned char *slice; /* between two guards */
     size_t bytes;
 } lent;
 
-static lent lend(size_t bytes) {
-    unsigned char *whole = room(bytes + 2 * GUARD_BYTES);
-    memset(whole, GUARD, bytes + 2 * GUARD_BYTES);
-    return (lent){whole, whole + GUARD_BYTES, bytes};
+static unsigned char rooms[SLICES][GUARD_BYTES + PLACE + GUARD_BYTES] __attribute__((aligned(16)));
+
+static lent lend(unsigned char *whole, const unsigned char *given, size_t bytes) {
+    memcpy(whole, guard, GUARD_BYTES);
+    memcpy(whole + GUARD_BYTES, given, bytes);
+    memcpy(whole + GUARD_BYTES + bytes, guard, GUARD_BYTES);
+    return (lent){whole + GUARD_BYTES, bytes};
 }
 
 static bool guarded(const lent *of) {
-    for (size_t i = 0; i < GUARD_BYTES; i++) {
-        if (of->whole[i] != GUARD || of->slice[of->bytes + i] != GUARD) {
-            return false;
-        }
-    }
-    return true;
+    return memcmp(of->slice - GUARD_BYTES, guard, GUARD_BYTES) == 0 && memcmp(of->slice + of->bytes, guard, GUARD_BYTES) == 0;
 }
 
 static void call(const request *asked, uint32_t n, const lent *a, unsigned char *result) {
-    /* Every slice starts 64 bytes into what malloc gave, so it is aligned for any element. */
+    /* Every slice starts 16 bytes into its room, so it is aligned for any element. */
     uint32_t *words[SLICES];
     size_t length[SLICES];
-    for (int i = 0; i < SLICES; i++) {
+    for (uint32_t i = 0; i < asked->slices; i++) {
         words[i] = (uint32_t *)(void *)a[i].slice;
         length[i] = a[i].bytes / 4;
     }
@@ -79,54 +79,53 @@ static void call(const request *asked, uint32_t n, const lent *a, unsigned char 
     }
 }
 
-/* Answers one request; false where the other side has ended. */
-static bool serve(const request *asked) {
-    unsigned char *given[SLICES];
-    lent slices[SLICES];
-    size_t reply = RESULT_BYTES;
-    for (int i = 0; i < SLICES; i++) {
-        given[i] = room(asked->bytes[i]);
-        if (!receive_all(0, given[i], asked->bytes[i])) {
-            return false;
-        }
-        slices[i] = lend(asked->bytes[i]);
-        reply += asked->writable[i] ? asked->bytes[i] : 0;
-    }
-    unsigned char *replies = room(reply * asked->times);
-    unsigned char *at = replies;
+/* Answers the request that stands in the shared memory. */
+static void serve(shared *with) {
+    const request *asked = &with->asked;
+    unsigned char *at = with->replies;
     for (uint32_t k = 0; k < asked->times; k++) {
-        for (int i = 0; i < SLICES; i++) {
-            memcpy(slices[i].slice, given[i], asked->bytes[i]);
+        lent slices[SLICES];
+        const unsigned char *given = with->lent;
+        for (uint32_t i = 0; i < asked->slices; i++) {
+            slices[i] = lend(rooms[i], given, asked->bytes[i]);
+            given += asked->bytes[i];
         }
         memset(at, 0, RESULT_BYTES);
         call(asked, asked->number + k, slices, at);
         at += RESULT_BYTES;
-        for (int i = 0; i < SLICES; i++) {
+        given = with->lent;
+        for (uint32_t i = 0; i < asked->slices; i++) {
             if (!guarded(&slices[i])) {
-                fprintf(stderr, "bridge: entry %u wrote past slice %d\n", asked->entry, i);
+                fprintf(stderr, "bridge: entry %u wrote past slice %u\n", asked->entry, i);
                 exit(3);
             }
             if (asked->writable[i]) {
                 memcpy(at, slices[i].slice, asked->bytes[i]);
                 at += asked->bytes[i];
-            } else if (memcmp(given[i], slices[i].slice, asked->bytes[i]) != 0) {
-                fprintf(stderr, "bridge: entry %u wrote to slice %d, which it only reads\n", asked->entry, i);
+            } else if (memcmp(given, slices[i].slice, asked->bytes[i]) != 0) {
+                fprintf(stderr, "bridge: entry %u wrote to slice %u, which it only reads\n", asked->entry, i);
                 exit(3);
             }
+            given += asked->bytes[i];
         }
     }
-    bool sent = send_all(1, replies, reply * asked->times);
-    free(replies);
-    for (int i = 0; i < SLICES; i++) {
-        free(given[i]);
-        free(slices[i].whole);
-    }
-    return sent;
 }
 
-int main(void) {
-    request asked;
-    while (receive_all(0, &asked, sizeof asked) && serve(&asked)) {
+static pid_t parent;
+static bool parent_lives(void) { return getppid() == parent; }
+
+int main(int count, char **words) {
+    if (count != 2) {
+        return 2;
+    }
+    shared *with = mmap(NULL, sizeof *with, PROT_READ | PROT_WRITE, MAP_SHARED, atoi(words[1]), 0);
+    if (with == MAP_FAILED) {
+        return 2;
+    }
+    parent = getppid();
+    while (wait_for(with, FAR_TURN, parent_lives)) {
+        serve(with);
+        atomic_store(&with->turn, NEAR_TURN);
     }
     return 0;
 }

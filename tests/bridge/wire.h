@@ -1,15 +1,16 @@
-/* What passes between the two sides of the bridge: a request to call one entry at one or more numbers in a row, and for each
- * number a reply. Both sides are little-endian machines with 64-bit pointers, so structs have one layout. */
+/* What passes between the two sides of the bridge, in memory that they share: a request to call one entry at one or more numbers
+ * in a row, and for each number a reply. Both sides are little-endian machines with 64-bit pointers, so structs have one
+ * layout. */
 #ifndef WIRE_H
 #define WIRE_H
 
 #include "becktrestle.h"
 
+#include <sched.h>
+#include <stdatomic.h>
 #include <stdbool.h>
 #include <stddef.h>
 #include <stdint.h>
-#include <stdlib.h>
-#include <unistd.h>
 
 /* The entries that take a number alone: the type of the answer, and the name. */
 #define NUMBER_ENTRIES(X)                                                                                                    \
@@ -51,47 +52,39 @@ enum entry {
 #define SLICES 3
 #define RESULT_BYTES 32
 
-/* The slices' bytes follow the request, one after the other. A reply is the answer in RESULT_BYTES bytes, then the bytes of
- * each slice that was lent to be written to. */
 typedef struct request {
     uint32_t entry;
     uint32_t number;
     uint32_t times;
+    uint32_t slices; /* how many are lent */
     uint32_t bytes[SLICES];
     uint32_t writable[SLICES];
 } request;
 
-/* All of it, or false: the other side has ended. */
-static inline bool send_all(int fd, const void *bytes, size_t len) {
-    for (const char *at = bytes; len > 0;) {
-        ssize_t sent = write(fd, at, len);
-        if (sent <= 0) {
+#define PLACE (1 << 22)
+
+/* Whose turn it is to read and write the rest: the near side's at the start and after each answer. A reply is the answer in
+ * RESULT_BYTES bytes, then the bytes of each slice that was lent to be written to. */
+enum turn { NEAR_TURN, FAR_TURN };
+typedef struct shared {
+    _Atomic uint32_t turn;
+    request asked;
+    unsigned char lent[PLACE];    /* the slices' bytes, one slice after the other */
+    unsigned char replies[PLACE]; /* one for each number */
+} shared;
+
+/* Waits for a turn; false where the other side, as alive says, has ended. */
+static inline bool wait_for(shared *with, enum turn turn, bool (*alive)(void)) {
+    for (uint32_t tries = 1; atomic_load(&with->turn) != turn; tries++) {
+        /* Short waits are the rule: a thread that sleeps would take longer to wake than the other side to answer. */
+        if (tries % 1024 == 0) {
+            sched_yield();
+        }
+        if (tries % (1 << 20) == 0 && !alive()) {
             return false;
         }
-        at += sent;
-        len -= (size_t)sent;
     }
     return true;
-}
-
-static inline bool receive_all(int fd, void *bytes, size_t len) {
-    for (char *at = bytes; len > 0;) {
-        ssize_t got = read(fd, at, len);
-        if (got <= 0) {
-            return false;
-        }
-        at += got;
-        len -= (size_t)got;
-    }
-    return true;
-}
-
-static inline void *room(size_t len) {
-    void *made = malloc(len > 0 ? len : 1);
-    if (made == NULL) {
-        abort();
-    }
-    return made;
 }
 
 #endif
