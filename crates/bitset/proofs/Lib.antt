@@ -1,4 +1,6 @@
 pub mod Rotate
 pub mod Tables
+pub mod Packed
+pub mod Reading
 pub mod Scan
 pub mod Equal

@@ -1,1 +1,2 @@
 pub mod Bitsets
+pub mod Packed

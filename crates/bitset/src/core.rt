@@ -1,9 +1,11 @@
-// The bitset search. It requires that every index is inside its table, so it is no public entry.
+// The bitset search over lent tables, and its steps, which the built-in tables take on their own accessors. What requires
+// that an index is inside its table is no public entry.
 ghost use mathlib.Core.Path.{_≡_};
 ghost use mathlib.Core.Bool.{true};
-ghost use Prim.Native.Nat.{_+_, _<_, _≤_};
+ghost use Prim.Native.Nat.{_+_, _%_, _<_, _≤_};
 ghost use lib.ListN.{length};
-ghost use Rattle.bitset.specs.Bitsets.{bitset, rotated, inverted, turned, wordAt, contains, allBelow, Inside};
+ghost use Rattle.bitset.specs.Bitsets.{bitset, bit, rotated, inverted, turned, mapped, wordAt, contains, allBelow, Inside};
+ghost use Rattle.bitset.specs.Packed.{byte};
 
 fn wide(x: u8) -> usize
     ensures { λ r. ⌜ r ≡ x ⌝ }
@@ -42,6 +44,27 @@ fn turn(mapping: u8, word: u64) -> u64
     rotate_left(word, quantity)
 }
 
+// What a pair makes of its canonical word. The inversion comes first: what a shift brings in stays zero.
+pub fn mapped(mapping: u8, word: u64) -> u64
+    ensures { λ r. ⌜ r ≡ mapped mapping word ⌝ }
+{
+    turn(mapping, invert(mapping, word))
+}
+
+// Whether the bit of n is set in the word of its bucket.
+pub fn has_bit(word: u64, n: u32) -> bool
+    ensures { λ r. ⌜ r ≡ bit (n % 64) word ⌝ }
+{
+    (word >> (n % 64)) % 2 == 1
+}
+
+// The byte of a table at an index, from the word that holds it among eight.
+pub fn byte_at(word: u64, index: usize) -> usize
+    ensures { λ r. ⌜ r ≡ byte (index % 8) word ⌝ }
+{
+    ((word >> (8 * (index % 8))) % 256) as usize
+}
+
 // The word of an index byte: a canonical word, or a pair's word after its mapping.
 fn word_at(canonical: &[u64], real: &[u8], mapping: &[u8], index: usize) -> u64
     requires { ⌜ (index < length (now canonical) + length (now real)) × (allBelow (length (now canonical)) (now real) ≡ true) × (length (now real) ≤ length (now mapping)) ⌝ }
@@ -52,9 +75,7 @@ fn word_at(canonical: &[u64], real: &[u8], mapping: &[u8], index: usize) -> u64
     }
     let pair = index - canonical.len();
     let word = canonical[wide(real[pair])];
-    let how = mapping[pair];
-    // The inversion comes first: what a shift brings in stays zero.
-    turn(how, invert(how, word))
+    mapped(mapping[pair], word)
 }
 
 // Whether the bit of n is set.
@@ -76,5 +97,5 @@ pub fn bitset_search(
     }
     let at = wide(map[chunk]) * 16 + bucket % 16;
     let word = word_at(canonical, real, mapping, wide(chunks[at]));
-    (word >> (n % 64)) % 2 == 1
+    has_bit(word, n)
 }

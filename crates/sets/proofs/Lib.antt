@@ -1,3 +1,4 @@
+pub mod Arms
 pub mod Decide
 pub mod Places
 pub mod Members

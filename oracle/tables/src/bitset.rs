@@ -11,6 +11,17 @@ pub struct Bitset {
     pub mapping: Vec<u8>,
 }
 
+/// What a pair's mapping makes of its canonical word.
+pub fn mapped(mapping: u8, word: u64) -> u64 {
+    let word = if mapping / 64 % 2 == 1 { !word } else { word };
+    let by = (mapping % 64) as u32;
+    if mapping >= 128 {
+        word >> by
+    } else {
+        word.rotate_left(by)
+    }
+}
+
 impl Bitset {
     pub fn read(module: &str) -> Bitset {
         let (mapped_word, mapping) = source::split(source::bytes(source::item(module, "BITSET_MAPPING")));
@@ -29,14 +40,7 @@ impl Bitset {
             return word;
         }
         let pair = index - self.canonical.len();
-        let (word, mapping) = (self.canonical[self.mapped_word[pair] as usize], self.mapping[pair]);
-        let word = if mapping / 64 % 2 == 1 { !word } else { word };
-        let by = (mapping % 64) as u32;
-        if mapping >= 128 {
-            word >> by
-        } else {
-            word.rotate_left(by)
-        }
+        mapped(self.mapping[pair], self.canonical[self.mapped_word[pair] as usize])
     }
 
     pub fn contains(&self, number: u32) -> bool {

@@ -1,7 +1,8 @@
 //! The committed table files, read as text, held against the committed answers. This needs no sources:
 //! the constants and the lists of specs/ are one and the same, and they decode to the answers.
 
-use crate::{bitset::Bitset, printable, rows, skip::Skip, source};
+use crate::layout::wide;
+use crate::{arms, bitset::Bitset, printable, rows, skip::Skip, source};
 use reference::compare::{self, Scalars, ALL, NON_ASCII};
 use reference::data::Data;
 use reference::lists::{self, Rows};
@@ -55,9 +56,14 @@ impl Crate<'_> {
     /// The constants are the lists of specs/, in this order.
     fn same(&self, names: &[String]) -> bool {
         let constants = names.iter().flat_map(|name| self.constant(name)).collect();
+        self.same_numbers(constants, names)
+    }
+
+    /// What the code holds is the lists of specs/, in this order.
+    fn same_numbers(&self, numbers: Vec<u64>, names: &[String]) -> bool {
         let lists: Vec<u64> =
             names.iter().flat_map(|name| list(&self.specs, &crate::files::camel(name))).collect();
-        compare::list(&format!("{}, constants against specs", self.name), constants, &lists)
+        compare::list(&format!("{}, code against specs", self.name), numbers, &lists)
     }
 }
 
@@ -70,15 +76,23 @@ fn of_planes(text: &str) -> Vec<String> {
     ["0", "1"].iter().flat_map(|plane| names(&text.replace('#', plane))).collect()
 }
 
-fn property(root: &Path, data: &Data, property: &str, constants: &str, decode: fn(&Crate) -> Ranges) -> bool {
+/// `decode` gives the numbers that the code holds, in the order of the lists named, and the set that they stand for.
+fn property(
+    root: &Path,
+    data: &Data,
+    property: &str,
+    lists: &str,
+    decode: fn(&Crate) -> (Vec<u64>, Ranges),
+) -> bool {
     let name = format!("table_{property}");
     let table = Crate::read(root, &name);
     let whole = data.property(property);
     let flat =
         fs::read_to_string(root.join("crates").join(&name).join("specs/Flat.antt")).expect("Flat.antt");
     let own = whole.without_ascii();
-    let decoded = decode(&table).answers();
-    table.same(&names(constants))
+    let (numbers, decoded) = decode(&table);
+    let decoded = decoded.answers();
+    table.same_numbers(numbers, &names(lists))
         & compare::property(&format!("{name}, table decoded against data"), ALL, &own, |c| {
             decoded[c as usize]
         })
@@ -95,7 +109,7 @@ fn rust_headers(root: &Path, property: &str) -> bool {
     let name = format!("table_{property}");
     let table = Crate::read(root, &name);
     let mut words = table.constant("HEADERS");
-    let last = skip(&table).0.last().expect("a range").1;
+    let last = skip(&table).1 .0.last().expect("a range").1;
     let closing = words.last_mut().expect("a header");
     *closing = (*closing >> 21 << 21) + (last + 1 + 0x110000) as u64;
     compare::list(
@@ -105,19 +119,36 @@ fn rust_headers(root: &Path, property: &str) -> bool {
     )
 }
 
-fn skip(table: &Crate) -> Ranges {
-    Skip::of_words(&table.constant("HEADERS"), &table.constant("OFFSETS")).flat()
+fn skip(table: &Crate) -> (Vec<u64>, Ranges) {
+    let (headers, offsets) = (table.constant("HEADERS"), table.constant("OFFSETS"));
+    let flat = Skip::of_words(&headers, &offsets).flat();
+    ([headers, offsets].concat(), flat)
 }
 
-fn bitset(table: &Crate) -> Ranges {
+fn bitset(table: &Crate) -> (Vec<u64>, Ranges) {
+    let text = &table.table;
+    let (_, length) = text.split_once(" CHUNK_MAP_LENGTH: usize = ").expect("the map's length");
+    let mut chunk_map = arms::read_eights(text, "chunk_map_eight");
+    chunk_map.truncate(length.split_once(';').expect("a number").0.parse().expect("a number"));
+    let (words, pairs): (Vec<_>, Vec<_>) =
+        arms::read(text, "word_at").into_iter().partition(|numbers| numbers.len() == 1);
+    let canonical = words.concat();
+    let which = |word: u64| canonical.iter().position(|&other| other == word).expect("a canonical word");
     let bitset = Bitset {
-        chunk_map: narrow(table.constant("CHUNK_MAP")),
-        chunks: narrow(table.constant("CHUNKS")),
-        canonical: table.constant("CANONICAL"),
-        mapped_word: narrow(table.constant("MAPPED_WORD")),
-        mapping: narrow(table.constant("MAPPING")),
+        chunk_map,
+        chunks: arms::read_eights(text, "chunks_eight"),
+        mapped_word: pairs.iter().map(|pair| which(pair[1]) as u8).collect(),
+        mapping: pairs.iter().map(|pair| pair[0] as u8).collect(),
+        canonical,
     };
-    Ranges::of(|number| bitset.contains(number))
+    let numbers = [
+        wide(&bitset.chunk_map),
+        wide(&bitset.chunks),
+        bitset.canonical.clone(),
+        wide(&bitset.mapped_word),
+        wide(&bitset.mapping),
+    ];
+    (numbers.concat(), Ranges::of(|number| bitset.contains(number)))
 }
 
 fn small(root: &Path, data: &Data, property: &str, file: &str) -> bool {

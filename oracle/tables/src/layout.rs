@@ -9,7 +9,7 @@ pub enum Form {
 }
 
 impl Form {
-    fn write(self, number: u64) -> String {
+    pub fn write(self, number: u64) -> String {
         match self {
             Form::Decimal => number.to_string(),
             Form::Hex(width) => format!("0x{number:0width$X}"),

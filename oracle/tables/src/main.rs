@@ -1,5 +1,6 @@
 //! tables ROOT [--check]: writes the generated table files below ROOT, or compares them.
 
+mod arms;
 mod bitset;
 mod committed;
 mod files;

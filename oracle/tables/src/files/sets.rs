@@ -1,6 +1,7 @@
 //! The properties: skip tables, bitsets, and the two that have no table.
 
-use super::{camel, list_of_ranges, of_rust, of_unicode, File, Inputs, DECIMAL, UNICODE_DATA};
+use super::{list_of_ranges, of_rust, of_unicode, File, Inputs, DECIMAL, UNICODE_DATA};
+use crate::arms::{self, Accessor, Arm};
 use crate::layout::{wide, Consts, Form, Lists};
 use crate::{bitset::Bitset, skip::Skip, source};
 use reference::counts::{counts, Counts};
@@ -75,26 +76,89 @@ pub fn bitset(inputs: &Inputs, property: &str, comment: &str) -> Vec<File> {
     assert_counts(&flat, counts(&text, comment));
     assert_answers(&flat, &unicode, inputs.reference.property(property));
 
-    let folder = format!("crates/table_{property}");
-    let mut consts = Consts::new(&of_rust(UNICODE_DATA));
     let mut specs = Lists::new(&of_rust(UNICODE_DATA));
     let pairs_say = "the pairs: bit 7 shift, bit 6 invert, six bits by how much";
-    for (says, name, kind, form, group, numbers) in [
-        ("the chunk of each 1,024 numbers", "CHUNK_MAP", "u8", DECIMAL, 1, wide(&table.chunk_map)),
-        ("the chunks, 16 index bytes to each", "CHUNKS", "u8", DECIMAL, 16, wide(&table.chunks)),
-        ("the canonical words", "CANONICAL", "u64", Form::Hex(16), 1, table.canonical.clone()),
-        ("the pairs: which canonical word", "MAPPED_WORD", "u8", DECIMAL, 1, wide(&table.mapped_word)),
-        (pairs_say, "MAPPING", "u8", DECIMAL, 1, wide(&table.mapping)),
+    for (says, name, form, group, numbers) in [
+        ("the chunk of each 1,024 numbers", "chunkMap", DECIMAL, 1, wide(&table.chunk_map)),
+        ("the chunks, 16 index bytes to each", "chunks", DECIMAL, 16, wide(&table.chunks)),
+        ("the canonical words", "canonical", Form::Hex(16), 1, table.canonical.clone()),
+        ("the pairs: which canonical word", "mappedWord", DECIMAL, 1, wide(&table.mapped_word)),
+        (pairs_say, "mapping", DECIMAL, 1, wide(&table.mapping)),
     ] {
-        consts.add(says, name, kind, form, &numbers);
-        specs.add(says, &camel(name), form, group, &numbers);
+        specs.add(says, name, form, group, &numbers);
     }
+    let folder = format!("table_{property}");
+    let accessors = accessors(&table, &folder);
     let mut files = vec![
-        (format!("{folder}/src/table.rt"), consts.text()),
-        (format!("{folder}/specs/Table.antt"), specs.text()),
+        (format!("crates/{folder}/src/table.rt"), bitset_code(&table, &folder, &accessors)),
+        (format!("crates/{folder}/specs/Table.antt"), specs.text()),
     ];
-    files.extend(flat_and_unicode(&folder, property, &list, &flat, &unicode));
+    files.extend(accessors.iter().map(|accessor| {
+        let path = format!("crates/{folder}/proofs/table/{}/Proof.antt", accessor.name);
+        (path, accessor.proof(&of_rust(UNICODE_DATA), &folder))
+    }));
+    files.extend(flat_and_unicode(&format!("crates/{folder}"), property, &list, &flat, &unicode));
     files
+}
+
+/// A bitset's tables as functions. Their names are read back by `committed`.
+fn accessors(table: &Bitset, folder: &str) -> [Accessor; 3] {
+    let lists = |names| (format!("Rattle.{folder}.specs.Table"), names);
+    let packed = || ("Rattle.bitset.specs.Packed".to_string(), "eight joined");
+    let pairs = table.mapped_word.iter().zip(&table.mapping);
+    let mapped = pairs.map(|(&word, &mapping)| Arm::Mapped(mapping, table.canonical[word as usize]));
+    [
+        Accessor {
+            says: "the chunk of each 1,024 numbers, eight bytes to an arm, the lowest first",
+            name: "chunk_map_eight",
+            index: "k",
+            requires: "8 * k < length chunkMap",
+            answers: "eight chunkMap",
+            opened: vec![packed(), lists("chunkMap")],
+            arms: arms::eights(&table.chunk_map),
+        },
+        Accessor {
+            says: "the index bytes of the chunks, eight to an arm, the lowest first",
+            name: "chunks_eight",
+            index: "k",
+            requires: "8 * k < length chunks",
+            answers: "eight chunks",
+            opened: vec![packed(), lists("chunks")],
+            arms: arms::eights(&table.chunks),
+        },
+        Accessor {
+            says: "the word of an index byte: the canonical words, and then the pairs, each by its mapping and its word",
+            name: "word_at",
+            index: "index",
+            requires: "index < length canonical + length mappedWord",
+            answers: "wordAt canonical mappedWord mapping",
+            opened: vec![
+                ("Rattle.bitset.specs.Bitsets".to_string(), "wordAt"),
+                lists("canonical mappedWord mapping"),
+            ],
+            arms: table.canonical.iter().copied().map(Arm::Number).chain(mapped).collect(),
+        },
+    ]
+}
+
+fn bitset_code(table: &Bitset, folder: &str, accessors: &[Accessor]) -> String {
+    let mut text = format!(
+        "// Generated from {} by `oracle/make`; do not edit.\n\
+        // A constant array would be built anew at each use; a `match` with an arm for each index is one load.\n\
+        ghost use mathlib.Core.Path.{{_≡_}};\n\
+        ghost use Prim.Native.Nat.{{_+_, _*_, _<_}};\n\
+        ghost use lib.ListN.{{length}};\n\
+        ghost use Rattle.bitset.specs.Bitsets.{{wordAt}};\n\
+        ghost use Rattle.bitset.specs.Packed.{{eight}};\n\
+        ghost use Rattle.{folder}.specs.Table.{{chunkMap, chunks, canonical, mappedWord, mapping}};\n\
+        use bitset::core::mapped;\n\n\
+        // how many chunks of 1,024 numbers the map has\n\
+        pub const CHUNK_MAP_LENGTH: usize = {};\n",
+        of_rust(UNICODE_DATA),
+        table.chunk_map.len(),
+    );
+    text += &arms::unreached();
+    accessors.iter().fold(text, |text, accessor| text + &accessor.code())
 }
 
 /// The two small properties, which have no table.
