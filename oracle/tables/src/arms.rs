@@ -66,11 +66,11 @@ impl Accessor {
         )
     }
 
-    /// Each arm answers what its index does; the prover asks first that the calls of `mapped` may be made.
+    /// Each arm answers what its index does. The prover asks first what `mapped` requires at each call, which is nothing.
     pub fn proof(&self, source: &str, folder: &str) -> String {
         let Accessor { name, answers, .. } = self;
         let pairs = self.arms.iter().filter(|arm| matches!(arm, Arm::Mapped(..))).count();
-        let mut answered = "    (λ c κs. search needs)\n".repeat(pairs);
+        let mut answered = "    (λ c κs. tt)\n".repeat(pairs);
         let mut calls = 0;
         for (k, arm) in self.arms.iter().enumerate() {
             let k = k + 1;
@@ -88,7 +88,7 @@ impl Accessor {
         let uses = |(module, names): &Opened| format!("use {module}.{{{}}}\n", names.replace(' ', ", "));
         let opened: String = self.opened.iter().map(uses).collect();
         let unfolding: Vec<&str> = self.opened.iter().map(|&(_, names)| names).collect();
-        let of_calls = "use mathlib.Core.Path.{_∙_}\nuse borrow.Author.Needs.{needs}\n";
+        let of_calls = "use mathlib.Core.Path.{_∙_}\n";
         let own = format!("Rattle.{folder}.proofs.table.{name}");
         let spec = name.replace('_', "-") + "-spec";
         format!(

@@ -1,5 +1,5 @@
 //! The committed table files, read as text, held against the committed answers. This needs no sources:
-//! the constants and the lists of specs/ are one and the same, and they decode to the answers.
+//! the tables in the code and the lists of specs/ are one and the same, and they decode to the answers.
 
 use crate::layout::wide;
 use crate::{arms, bitset::Bitset, printable, rows, skip::Skip, source};
