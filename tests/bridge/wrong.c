@@ -1,5 +1,5 @@
-/* The control, run on the far side's machine: an encoder that writes one byte past its slice. The far side must not let it pass.
- * It is linked in the place of becktrestle_encode_utf8, and main asks for one call of it. */
+/* The bridge's control, on its far side: an encoder that writes one byte past its slice, linked in the place of
+ * becktrestle_encode_utf8. The far side must not let it pass. */
 #include "becktrestle.h"
 
 becktrestle_count past_the_end(uint32_t n, uint8_t *out, size_t out_len) {
