@@ -27,8 +27,8 @@
  * where the length is 0: any aligned address will do there, as that of a local. Buffers that are lent to one call must not
  * overlap. On success every element past the reported length is as it was.
  *
- * ROOM. Code and tables are 28 KB. The deepest stack, measured over every number to 0x10FFFF: is_printable 8.3 KB, the
- * mappings 3.4 KB, every other property 1.9 KB, all else below 1 KB. Time: docs/PERFORMANCE.md.
+ * ROOM. Code and tables are 28 KB. The BECKTRESTLE_STACK_ macros are the deepest stack, measured over every number to 0x10FFFF
+ * and lists of every length. Time: docs/PERFORMANCE.md.
  */
 #ifndef BECKTRESTLE_H
 #define BECKTRESTLE_H
@@ -52,6 +52,11 @@ extern "C" {
 /* How many elements are enough to encode any scalar value. */
 #define BECKTRESTLE_UTF8_ENOUGH 4
 #define BECKTRESTLE_UTF16_ENOUGH 2
+/* How many bytes of stack a call takes at the most, beyond the caller's own: measured, and kept by the gate. */
+#define BECKTRESTLE_STACK_PRINTABLE 8448 /* is_printable */
+#define BECKTRESTLE_STACK_PROPERTY 1920  /* every other property */
+#define BECKTRESTLE_STACK_MAPPING 3456   /* the three mappings */
+#define BECKTRESTLE_STACK_OTHER 256      /* all else */
 
 /* Accepted where refusal is 0. */
 typedef struct becktrestle_verdict {
