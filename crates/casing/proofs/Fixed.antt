@@ -4,7 +4,6 @@ use Rattle.casing.proofs.Mapping.refused.Reads as refused
 use Rattle.casing.proofs.Mapping.new.Reads as new
 use Rattle.casing.proofs.ascii.to_ascii_lowercase.Reads as to-ascii-lowercase
 use Rattle.casing.proofs.ascii.to_ascii_uppercase.Reads as to-ascii-uppercase
-use Rattle.casing.proofs.core.lookup.Reads as lookup
 
 refused-fixed : (κs : _) (a : _) (r r′ : _) (s s′ : _) → refused.Post κs a r s → refused.Post κs a r′ s′ → r ≡ r′
 refused-fixed κs a r r′ s s′ p q = p ∙ sym q
@@ -19,6 +18,3 @@ to-ascii-lowercase-fixed κs a r r′ s s′ p q = p ∙ sym q
 to-ascii-uppercase-fixed : (κs : _) (a : _) (r r′ : _) (s s′ : _)
     → to-ascii-uppercase.Post κs a r s → to-ascii-uppercase.Post κs a r′ s′ → r ≡ r′
 to-ascii-uppercase-fixed κs a r r′ s s′ p q = p ∙ sym q
-
-lookup-fixed : (κs : _) (a : _) (r r′ : _) (s s′ : _) → lookup.Post κs a r s → lookup.Post κs a r′ s′ → r ≡ r′
-lookup-fixed κs a r r′ s s′ p q = p ∙ sym q

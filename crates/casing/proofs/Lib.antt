@@ -1,6 +1,8 @@
 pub mod Answers
 pub mod Sorted
 pub mod Reader
+pub mod Pages
+pub mod Arms
 pub mod Expand
 pub mod Whole
 pub mod Letters

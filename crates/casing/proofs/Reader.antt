@@ -13,9 +13,9 @@ use Rattle.scalar.specs.Scalars.{between}
 use Rattle.sets.proofs.Decide.{same, and-left, and-right, and-not-left}
 use Rattle.casing.specs.declared.Mapping.{Mapping}
 use Rattle.casing.specs.Answers.{answer}
+use Rattle.casing.specs.Reading.{Halved}
 use Rattle.casing.specs.Rows.{Row, zip, firstRow, covers, moved, inPlane, inPlaneOr0, single, multiple, apart, tidySingles, tidyMultis}
-use Rattle.casing.specs.Only.{Only}
-use Rattle.casing.proofs.Sorted.{apart-length}
+use Rattle.casing.proofs.Sorted.{Only, apart-length, only}
 
 -- past a list's end
 abbrev pub empty : Row
@@ -125,6 +125,11 @@ alone k x h = ne-eqb k x (λ e. let z : between k k x ≡ true = rw (le-leb k x 
     let f : _≡_ {A = ℕ} 0 1 = cc in omega arith)
 
 module _ (multi first second third : List ℕ) (plane x : ℕ) (other : Mapping) (t : tidyMultis multi first second third ≡ true) where
+  -- halving all of them
+  pub multi-only : (r : ℕ) → Halved multi 0 (length multi) x r → Only multi multi x r
+  multi-only r h =
+      only multi multi x (multis-parts multi first second third t .0) 0 (length multi) (omega arith) (λ j k e. (omega arith, k)) r h
+
   module _ (r : ℕ) (o : Only multi multi x r) where
     pub multi-found : r < length multi → getD multi r 0 ≡ x
         → multiple (zip multi first second third) plane x other

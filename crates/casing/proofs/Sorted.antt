@@ -12,7 +12,12 @@ use lib.ListN.{length, getD}
 use Rattle.scalar.specs.Scalars.{between}
 use Rattle.sets.proofs.Decide.{split, and-left, and-right}
 use Rattle.casing.specs.Rows.{apart}
-use Rattle.casing.specs.Only.{Only}
+use Rattle.casing.specs.Reading.{Halved}
+
+-- no row but r holds x
+pub record Only (starts ends : List ℕ) (x r : ℕ) : Type 0 where
+  pub inside : r ≤ length starts
+  pub others : (j : ℕ) → j < length starts → (j ≡ r → ⊥) → between (getD starts j 0) (getD ends j 0) x ≡ false
 
 and-no-right : (s t : Bool) → t ≡ false → (s && t) ≡ false
 and-no-right true t p = p
@@ -67,14 +72,36 @@ module _ (ss es : List ℕ) (x : ℕ) (t : apart 0 ss es ≡ true) where
   past : (j : ℕ) → x < getD ss j 0 → between (getD ss j 0) (getD es j 0) x ≡ false
   past j l = rw (lt-leb (getD ss j 0) x l) refl
 
-  -- the first row that does not end below x is the only one that can hold x
-  pub only : (r : ℕ) → r ≤ length ss → ((j : ℕ) → j < r → getD es j 0 < x) → (r < length ss → x ≤ getD es r 0) → Only ss es x r
-  only r l before here =
-      record {
-        inside = l;
-        others = λ j k ne.
-            ⊎-elim (λ (h : r ≤ j). let o : r < j = omega arith in
-            let y = apart-at 0 ss es t j k in
-            past j (omega (arith, y .above r o, here (omega arith))))
-            (λ h. below j (before j h)) (split r j);
-      }
+  -- where only the rows from first to before last can hold x, the one that halving finds is the only one that can
+  module _ (first last : ℕ) (fits : last ≤ length ss)
+      (held : (j : ℕ) → j < length ss → between (getD ss j 0) (getD es j 0) x ≡ true → (first ≤ j) × (j < last)) where
+    unheld : (j : ℕ) → j < length ss → ((first ≤ j) × (j < last) → ⊥) → between (getD ss j 0) (getD es j 0) x ≡ false
+    unheld j k out = by-test (between (getD ss j 0) (getD es j 0) x) refl
+      where
+        by-test : (t : Bool) → between (getD ss j 0) (getD es j 0) x ≡ t → between (getD ss j 0) (getD es j 0) x ≡ false
+        by-test true e = absurd (out (held j k e))
+        by-test false e = e
+
+    pub only : (r : ℕ) → Halved es first last x r → Only ss es x r
+    only r h =
+        record {
+          inside = omega (arith, h .upto);
+          others = λ j k ne.
+              ⊎-elim
+              (λ (o : r ≤ j).
+              ⊎-elim
+              (λ (l : last ≤ j). unheld j k (λ w. omega (arith, w .1)))
+              (λ (l : j < last). let y = apart-at 0 ss es t j k in
+              past j (omega (arith, y .above r (omega arith), h .reached (omega arith))))
+              (split last j))
+              (λ (o : j < r).
+              ⊎-elim
+              (λ (l : first ≤ j). below j (h .below j l o))
+              (λ (l : j < first). unheld j k (λ w. omega (arith, w .0)))
+              (split first j))
+              (split r j);
+        }
+
+    -- past the last there is none
+    pub no-last : (r : ℕ) → r ≡ last → r < length ss → between (getD ss r 0) (getD es r 0) x ≡ false
+    no-last r e k = unheld r k (λ w. omega (arith, w .1))

@@ -1,4 +1,4 @@
 pub mod Answers
 pub mod Rows
 pub mod Listed
-pub mod Only
+pub mod Reading

@@ -1,19 +1,33 @@
-// The row reader over slices, one for each field of a plane's rows.
+// Reading a plane's rows. The page of a number, 256 numbers each, says which single rows can hold it, halving finds the one that
+// does, and its word says where the number goes. So nothing is lent for a page without rows, and the multi rows are lent only
+// where no single row covers the number: an array that is lent is built anew at each call.
 ghost use mathlib.Core.Path.{_≡_};
 ghost use mathlib.Core.Bool.{true};
-ghost use Prim.Native.Nat.{ℕ, _<_};
-ghost use Rattle.casing.specs.Rows.{zip, covers, moved, inPlane, inPlaneOr0, single, multiple, looked, apart, tidySingles, tidyMultis};
-ghost use Rattle.casing.specs.Answers.{answer};
-ghost use Rattle.casing.specs.Only.{Only};
-use crate::Mapping;
+ghost use Prim.Native.Nat.{ℕ, _<_, _≤_, _%_};
+ghost use lib.ListN.{length};
+ghost use Rattle.casing.specs.Rows.{zip, covers, moved, inPlane, inPlaneOr0, multiple, apart, tidyMultis};
+ghost use Rattle.casing.specs.Reading.{Says, unpacked, rowSays, Halved};
 
-// The one row that can hold x: the first that does not end below it.
-fn row_at(starts: &[u16], ends: &[u16], x: u16) -> usize
-    requires { ⌜ apart 0 (now starts) (now ends) ≡ true ⌝ }
-    ensures { λ r. ⌜ Only (now (starts .entry)) (now (ends .entry)) x r ⌝ }
+// Where the rows send a number: one to three numbers, unused ones 0.
+pub enum Found {
+    To(u32, u32, u32),
+    Nothing,
+}
+
+// The single rows that can hold a page's numbers, from the first index to before the second. An empty page has no row of any kind.
+pub enum Page {
+    Rows(usize, usize),
+    Empty,
+}
+
+// Among the rows from first to before last: the first that does not end below x, or last.
+pub fn row_at(ends: &[u16], first: usize, last: usize, x: u16) -> usize
+    requires { ⌜ apart 0 (now ends) (now ends) ≡ true ⌝ }
+    requires { ⌜ (first ≤ last) × (last ≤ length (now ends)) ⌝ }
+    ensures { λ r. ⌜ Halved (now (ends .entry)) first last x r ⌝ }
 {
-    let mut lo: usize = 0;
-    let mut hi = starts.len();
+    let mut lo = first;
+    let mut hi = last;
     while lo < hi {
         let mid = lo + (hi - lo) / 2;
         if ends[mid] < x {
@@ -25,7 +39,7 @@ fn row_at(starts: &[u16], ends: &[u16], x: u16) -> usize
     lo
 }
 
-fn row_covers(start: u16, end: u16, step: u8, x: u16) -> bool
+fn row_covers(start: u16, end: u16, step: u16, x: u16) -> bool
     ensures { λ r. ⌜ r ≡ covers start end step x ⌝ }
 {
     if x < start {
@@ -65,89 +79,48 @@ fn moved_by(plane: u32, x: u16, delta: u16) -> u32
     number_in(plane, std::num::wrapping_add_u16(x, delta))
 }
 
-fn several(plane: u32, first: u16, second: u16, third: u16) -> Mapping
-    requires { ⌜ plane < 65536 ⌝ }
-    ensures { λ r. ⌜ r ≡ answer (inPlane plane first) (inPlaneOr0 plane second) (inPlaneOr0 plane third) ⌝ }
+fn lowest(word: u64) -> u16
+    ensures { λ r. ⌜ r ≡ word % 65536 ⌝ }
 {
-    Mapping::new(
-        number_in(plane, first),
-        number_or_0(plane, second),
-        number_or_0(plane, third),
-    )
+    (word % 0x10000) as u16
 }
 
-// The number with these low 16 bits by a plane's single rows, or else `other`.
-fn single_row(
-    starts: &[u16],
-    ends: &[u16],
-    steps: &[u8],
-    deltas: &[u16],
-    plane: u32,
-    low: u16,
-    other: Mapping,
-) -> Mapping
+// Where a packed single row sends the number with these low 16 bits.
+pub fn by_row(row: u64, plane: u32, low: u16) -> Found
     requires { ⌜ plane < 65536 ⌝ }
-    requires { ⌜ tidySingles (now starts) (now ends) (now steps) (now deltas) ≡ true ⌝ }
-    ensures { λ r. ⌜ r ≡ single (zip (now (starts .entry)) (now (ends .entry)) (now (steps .entry)) (now (deltas .entry))) plane low other ⌝ }
+    ensures { λ r. ⌜ r ≡ rowSays (unpacked row) plane low ⌝ }
 {
-    let i = row_at(starts, ends, low);
-    if i < starts.len() {
-        if row_covers(starts[i], ends[i], steps[i], low) {
-            return Mapping::new(moved_by(plane, low, deltas[i]), 0, 0);
-        }
+    let after_start = row / 0x10000;
+    let after_end = after_start / 0x10000;
+    let after_step = after_end / 0x10000;
+    if row_covers(lowest(row), lowest(after_start), lowest(after_end), low) {
+        return Found::To(moved_by(plane, low, lowest(after_step)), 0, 0);
     }
-    other
+    Found::Nothing
 }
 
-// The number with these low 16 bits by a plane's multi rows, or else `other`.
-fn multi_row(
+// Where a plane's multi rows send the number with these low 16 bits.
+pub fn multi_row(
     multi: &[u16],
     first: &[u16],
     second: &[u16],
     third: &[u16],
     plane: u32,
     low: u16,
-    other: Mapping,
-) -> Mapping
+) -> Found
     requires { ⌜ plane < 65536 ⌝ }
     requires { ⌜ tidyMultis (now multi) (now first) (now second) (now third) ≡ true ⌝ }
-    ensures { λ r. ⌜ r ≡ multiple (zip (now (multi .entry)) (now (first .entry)) (now (second .entry)) (now (third .entry))) plane low other ⌝ }
+    ensures { λ r. ⌜ Says r (multiple (zip (now (multi .entry)) (now (first .entry)) (now (second .entry)) (now (third .entry))) plane low) ⌝ }
 {
-    let i = row_at(multi, multi, low);
+    let i = row_at(multi, 0, multi.len(), low);
     if i < multi.len() {
         if multi[i] == low {
-            return several(plane, first[i], second[i], third[i]);
+            return Found::To(
+                number_in(plane, first[i]),
+                number_or_0(plane, second[i]),
+                number_or_0(plane, third[i]),
+            );
         }
     }
-    other
-}
-
-// The number with these low 16 bits by a plane's rows: single rows, then multi rows, or else `other`.
-pub fn lookup(
-    starts: &[u16],
-    ends: &[u16],
-    steps: &[u8],
-    deltas: &[u16],
-    multi: &[u16],
-    first: &[u16],
-    second: &[u16],
-    third: &[u16],
-    plane: u32,
-    low: u16,
-    other: Mapping,
-) -> Mapping
-    requires { ⌜ plane < 65536 ⌝ }
-    requires { ⌜ tidySingles (now starts) (now ends) (now steps) (now deltas) ≡ true ⌝ }
-    requires { ⌜ tidyMultis (now multi) (now first) (now second) (now third) ≡ true ⌝ }
-    ensures { λ r. ⌜ r ≡ looked (record { starts = now (starts .entry); ends = now (ends .entry); steps = now (steps .entry); deltas = now (deltas .entry); multi = now (multi .entry); first = now (first .entry); second = now (second .entry); third = now (third .entry) }) plane low other ⌝ }
-{
-    single_row(
-        starts,
-        ends,
-        steps,
-        deltas,
-        plane,
-        low,
-        multi_row(multi, first, second, third, plane, low, other),
-    )
+    Found::Nothing
 }

@@ -93,6 +93,13 @@ unfoldable pub multi0Third : List ℕ
 multi0Third =
     0x0000 ∷ []
 
+-- plane 0: each page that has rows, with its single rows from the first index to before the second
+unfoldable pub pages0 : List ℕ
+pages0 =
+    0 ∷ 0 ∷ 2 ∷ 1 ∷ 2 ∷ 50 ∷ 2 ∷ 49 ∷ 61 ∷ 3 ∷ 61 ∷ 77 ∷ 4 ∷ 77 ∷ 84 ∷ 5 ∷ 83 ∷ 85 ∷ 16 ∷ 85 ∷ 88 ∷
+    19 ∷ 88 ∷ 90 ∷ 28 ∷ 90 ∷ 93 ∷ 30 ∷ 93 ∷ 96 ∷ 31 ∷ 96 ∷ 119 ∷ 33 ∷ 119 ∷ 125 ∷ 36 ∷ 125 ∷ 126 ∷
+    44 ∷ 126 ∷ 142 ∷ 166 ∷ 142 ∷ 144 ∷ 167 ∷ 144 ∷ 171 ∷ 255 ∷ 171 ∷ 172 ∷ []
+
 -- plane 1, rows: the first number of each
 unfoldable pub starts1 : List ℕ
 starts1 =
@@ -135,3 +142,8 @@ multi1Second =
 unfoldable pub multi1Third : List ℕ
 multi1Third =
     []
+
+-- plane 1: each page that has rows, with its single rows from the first index to before the second
+unfoldable pub pages1 : List ℕ
+pages1 =
+    4 ∷ 0 ∷ 2 ∷ 5 ∷ 2 ∷ 6 ∷ 12 ∷ 6 ∷ 7 ∷ 13 ∷ 7 ∷ 8 ∷ 24 ∷ 8 ∷ 9 ∷ 110 ∷ 9 ∷ 11 ∷ 233 ∷ 11 ∷ 12 ∷ []

@@ -8,19 +8,20 @@ use lib.Dec.{lit≤}
 use Rattle.scalar.specs.Scalars.{scalarElse}
 use Rattle.casing.specs.declared.Mapping.{Mapping}
 use Rattle.casing.specs.Answers.{made}
+use Rattle.casing.specs.Reading.{pageOf, singlesPaged, multisPaged, pagesFit, rowsFit, readable}
 use Rattle.casing.specs.Rows.{zip, firstRow, single, multiple, looked, apart, tidySingles, tidyMultis, fromFloor}
 use Rattle.casing.specs.Listed.{quads, rowOf}
 use Rattle.casing.proofs.Expand.{find, scan, expandSingles, expandMultis, merge, rising, spans, lies}
 use Rattle.casing.proofs.Whole.{scalars, answerRow, answers-made, written, sound, list-maps}
 use Rattle.casing_upper.specs.Unicode as upper
 use Rattle.casing_upper.proofs.Same as upper-same
-use Rattle.casing_title.specs.Table.{starts0, ends0, steps0, deltas0, multi0, multi0First, multi0Second, multi0Third, starts1, ends1, steps1, deltas1, multi1, multi1First, multi1Second, multi1Third}
+use Rattle.casing_title.specs.Table.{starts0, ends0, steps0, deltas0, multi0, multi0First, multi0Second, multi0Third, pages0, starts1, ends1, steps1, deltas1, multi1, multi1First, multi1Second, multi1Third}
 use Rattle.casing_title.specs.Unicode.{rows}
 use Rattle.casing_title.specs.Planes.{plane0, plane1}
 
-pub tidy0 : (tidySingles starts0 ends0 steps0 deltas0 ≡ true) × (tidyMultis multi0 multi0First multi0Second multi0Third ≡ true)
-unfolding tidySingles tidyMultis apart starts0 ends0 steps0 deltas0 multi0 multi0First multi0Second multi0Third
-tidy0 = (refl, refl)
+pub readable0 : readable plane0 pages0 ≡ true
+unfolding readable tidySingles tidyMultis apart singlesPaged multisPaged pagesFit rowsFit pageOf zip starts0 ends0 steps0 deltas0 multi0 multi0First multi0Second multi0Third pages0
+readable0 = refl
 
 right : written plane0 plane1 (quads upper.rows) ≡ quads rows
 unfolding upper.rows starts0 ends0 steps0 deltas0 multi0 multi0First multi0Second multi0Third starts1 ends1 steps1 deltas1 multi1 multi1First multi1Second multi1Third rows zip quads scan expandSingles expandMultis merge

@@ -57,6 +57,11 @@ multi0Third =
     0x0000 ∷ 0x0000 ∷ 0x0000 ∷ 0x0069 ∷ 0x006C ∷ 0x0000 ∷ 0x0000 ∷ 0x0000 ∷ 0x0000 ∷ 0x0000 ∷ 0x0000 ∷
     0x0000 ∷ []
 
+-- plane 0: each page that has rows, with its single rows from the first index to before the second
+unfoldable pub pages0 : List ℕ
+pages0 =
+    0 ∷ 0 ∷ 0 ∷ 1 ∷ 0 ∷ 12 ∷ 5 ∷ 12 ∷ 12 ∷ 16 ∷ 12 ∷ 14 ∷ 31 ∷ 14 ∷ 26 ∷ 251 ∷ 26 ∷ 26 ∷ []
+
 -- plane 1, rows: the first number of each
 unfoldable pub starts1 : List ℕ
 starts1 =

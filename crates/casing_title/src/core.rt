@@ -2,45 +2,66 @@
 ghost use mathlib.Core.Path.{_≡_};
 ghost use mathlib.Core.Bool.{true};
 ghost use Rattle.casing.specs.Answers.{isScalar};
-ghost use Rattle.casing.specs.Rows.{looked};
 ghost use Rattle.casing.specs.Listed.{rowOf};
+ghost use Rattle.casing.specs.Reading.{Says};
+ghost use Rattle.casing.specs.Rows.{multiple, multis, looked, fromFloor};
 ghost use Rattle.casing_title.specs.Planes as planes;
 ghost use Rattle.casing_title.specs.Unicode.{rows};
 use crate::table;
 use casing::Mapping;
+use casing::core::Found;
+use casing::core::Page;
 
-// The rows of plane 0, lent once; plane 1 has none.
-fn plane0(low: u16, other: Mapping) -> Mapping
-    ensures { λ r. ⌜ r ≡ looked planes.plane0 0 low other ⌝ }
+fn multi0(low: u16) -> Found
+    ensures { λ r. ⌜ Says r (multiple (multis planes.plane0) 0 low) ⌝ }
 {
-    casing::core::lookup(
-        &table::STARTS0,
-        &table::ENDS0,
-        &table::STEPS0,
-        &table::DELTAS0,
+    casing::core::multi_row(
         &table::MULTI0,
         &table::MULTI0_FIRST,
         &table::MULTI0_SECOND,
         &table::MULTI0_THIRD,
         0,
         low,
-        other,
     )
 }
 
-// What Unicode's rows say of a scalar value: its own rows, from 0xB5 on, and only where they have none the upper mapping.
+fn plane0(low: u16) -> Found
+    ensures { λ r. ⌜ Says r (looked planes.plane0 0 low) ⌝ }
+{
+    let Page::Rows(first, last) = table::page0(low / 256) else {
+        return Found::Nothing;
+    };
+    let i = casing::core::row_at(&table::ENDS0, first, last, low);
+    if i == last {
+        return multi0(low);
+    }
+    let Found::To(a, b, c) = casing::core::by_row(table::row0(i), 0, low) else {
+        return multi0(low);
+    };
+    Found::To(a, b, c)
+}
+
+// The rows of plane 0, from 0xB5 on; plane 1 has none.
+fn by_rows(n: u32) -> Found
+    ensures { λ r. ⌜ Says r (fromFloor 0xB5 planes.plane0 planes.plane1 n) ⌝ }
+{
+    if n < 0xB5 {
+        return Found::Nothing;
+    }
+    let plane = n / 0x10000;
+    if plane == 0 {
+        return plane0((n % 0x10000) as u16);
+    }
+    Found::Nothing
+}
+
+// What Unicode's rows say of a scalar value: its own rows, and only where they have none the upper mapping.
 pub fn to_title(n: u32) -> Mapping
     requires { ⌜ isScalar n ≡ true ⌝ }
     ensures { λ r. ⌜ r ≡ rowOf rows n ⌝ }
 {
-    let other = casing_upper::core::to_upper(n);
-    if n < 0xB5 {
-        return other;
-    }
-    let low = (n % 0x10000) as u16;
-    let plane = n / 0x10000;
-    if plane == 0 {
-        return plane0(low, other);
-    }
-    other
+    let Found::To(a, b, c) = by_rows(n) else {
+        return casing_upper::core::to_upper(n);
+    };
+    Mapping::new(a, b, c)
 }

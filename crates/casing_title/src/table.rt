@@ -1,34 +1,11 @@
 // Generated from library/core/src/unicode/unicode_data.rs of Rust 1.97.0 by `oracle/make`; do not edit.
-
-// plane 0, rows: the first number of each
-pub const STARTS0: [u16; 26] = [
-    0x01C4,
-    0x01C5,
-    0x01C6,
-    0x01C7,
-    0x01C8,
-    0x01C9,
-    0x01CA,
-    0x01CB,
-    0x01CC,
-    0x01F1,
-    0x01F2,
-    0x01F3,
-    0x10D0,
-    0x10FD,
-    0x1F80,
-    0x1F88,
-    0x1F90,
-    0x1F98,
-    0x1FA0,
-    0x1FA8,
-    0x1FB3,
-    0x1FBC,
-    0x1FC3,
-    0x1FCC,
-    0x1FF3,
-    0x1FFC,
-];
+ghost use mathlib.Core.Path.{_≡_};
+ghost use lib.ListN.{getD};
+ghost use Rattle.casing.specs.Reading.{packed, pageOf};
+ghost use Rattle.casing.specs.Rows.{singles};
+ghost use Rattle.casing_title.specs.Planes as planes;
+ghost use Rattle.casing_title.specs.Table as lists;
+use casing::core::Page;
 
 // plane 0, rows: the last number of each
 pub const ENDS0: [u16; 26] = [
@@ -58,66 +35,6 @@ pub const ENDS0: [u16; 26] = [
     0x1FCC,
     0x1FF3,
     0x1FFC,
-];
-
-// plane 0, rows: 2 where only numbers of the start's parity are covered, else 1
-pub const STEPS0: [u8; 26] = [
-    1,
-    1,
-    1,
-    1,
-    1,
-    1,
-    1,
-    1,
-    1,
-    1,
-    1,
-    1,
-    1,
-    1,
-    1,
-    1,
-    1,
-    1,
-    1,
-    1,
-    1,
-    1,
-    1,
-    1,
-    1,
-    1,
-];
-
-// plane 0, rows: what is added to the low 16 bits, wrapping
-pub const DELTAS0: [u16; 26] = [
-    0x0001,
-    0x0000,
-    0xFFFF,
-    0x0001,
-    0x0000,
-    0xFFFF,
-    0x0001,
-    0x0000,
-    0xFFFF,
-    0x0001,
-    0x0000,
-    0xFFFF,
-    0x0000,
-    0x0000,
-    0x0008,
-    0x0000,
-    0x0008,
-    0x0000,
-    0x0008,
-    0x0000,
-    0x0009,
-    0x0000,
-    0x0009,
-    0x0000,
-    0x0009,
-    0x0000,
 ];
 
 // plane 0, multi rows: the number mapped
@@ -227,6 +144,56 @@ pub const MULTI0_THIRD: [u16; 23] = [
     0x0000,
     0x0000,
 ];
+
+// plane 0: a row in a word, 16 bits each: delta, step, last number, first number
+pub fn row0(i: usize) -> u64
+    ensures { λ r. ⌜ r ≡ getD (packed (singles planes.plane0)) i 0 ⌝ }
+{
+    match i {
+        0 => 0x0001000101C401C4,
+        1 => 0x0000000101C501C5,
+        2 => 0xFFFF000101C601C6,
+        3 => 0x0001000101C701C7,
+        4 => 0x0000000101C801C8,
+        5 => 0xFFFF000101C901C9,
+        6 => 0x0001000101CA01CA,
+        7 => 0x0000000101CB01CB,
+        8 => 0xFFFF000101CC01CC,
+        9 => 0x0001000101F101F1,
+        10 => 0x0000000101F201F2,
+        11 => 0xFFFF000101F301F3,
+        12 => 0x0000000110FA10D0,
+        13 => 0x0000000110FF10FD,
+        14 => 0x000800011F871F80,
+        15 => 0x000000011F8F1F88,
+        16 => 0x000800011F971F90,
+        17 => 0x000000011F9F1F98,
+        18 => 0x000800011FA71FA0,
+        19 => 0x000000011FAF1FA8,
+        20 => 0x000900011FB31FB3,
+        21 => 0x000000011FBC1FBC,
+        22 => 0x000900011FC31FC3,
+        23 => 0x000000011FCC1FCC,
+        24 => 0x000900011FF31FF3,
+        25 => 0x000000011FFC1FFC,
+        _ => 0,
+    }
+}
+
+// plane 0: the single rows of each page that has rows, from the first index to before the second
+pub fn page0(page: u16) -> Page
+    ensures { λ r. ⌜ r ≡ pageOf lists.pages0 page ⌝ }
+{
+    match page {
+        0x00 => Page::Rows(0, 0),
+        0x01 => Page::Rows(0, 12),
+        0x05 => Page::Rows(12, 12),
+        0x10 => Page::Rows(12, 14),
+        0x1F => Page::Rows(14, 26),
+        0xFB => Page::Rows(26, 26),
+        _ => Page::Empty,
+    }
+}
 
 // plane 1 has no rows: their arrays would be empty and are left out
 

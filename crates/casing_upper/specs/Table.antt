@@ -133,6 +133,14 @@ multi0Third =
     0x0399 ∷ 0x0000 ∷ 0x0000 ∷ 0x0000 ∷ 0x0000 ∷ 0x0049 ∷ 0x004C ∷ 0x0000 ∷ 0x0000 ∷ 0x0000 ∷ 0x0000 ∷
     0x0000 ∷ 0x0000 ∷ 0x0000 ∷ []
 
+-- plane 0: each page that has rows, with its single rows from the first index to before the second
+unfoldable pub pages0 : List ℕ
+pages0 =
+    0 ∷ 0 ∷ 4 ∷ 1 ∷ 4 ∷ 42 ∷ 2 ∷ 41 ∷ 83 ∷ 3 ∷ 83 ∷ 107 ∷ 4 ∷ 107 ∷ 114 ∷ 5 ∷ 113 ∷ 115 ∷ 16 ∷ 115 ∷ 117 ∷
+    19 ∷ 117 ∷ 118 ∷ 28 ∷ 118 ∷ 127 ∷ 29 ∷ 127 ∷ 130 ∷ 30 ∷ 130 ∷ 133 ∷ 31 ∷ 133 ∷ 151 ∷ 33 ∷ 151 ∷ 154 ∷
+    36 ∷ 154 ∷ 155 ∷ 44 ∷ 155 ∷ 165 ∷ 45 ∷ 165 ∷ 168 ∷ 166 ∷ 168 ∷ 170 ∷ 167 ∷ 170 ∷ 182 ∷
+    171 ∷ 182 ∷ 184 ∷ 251 ∷ 184 ∷ 184 ∷ 255 ∷ 184 ∷ 185 ∷ []
+
 -- plane 1, rows: the first number of each
 unfoldable pub starts1 : List ℕ
 starts1 =
@@ -175,3 +183,8 @@ multi1Second =
 unfoldable pub multi1Third : List ℕ
 multi1Third =
     []
+
+-- plane 1: each page that has rows, with its single rows from the first index to before the second
+unfoldable pub pages1 : List ℕ
+pages1 =
+    4 ∷ 0 ∷ 2 ∷ 5 ∷ 2 ∷ 6 ∷ 12 ∷ 6 ∷ 7 ∷ 13 ∷ 7 ∷ 8 ∷ 24 ∷ 8 ∷ 9 ∷ 110 ∷ 9 ∷ 11 ∷ 233 ∷ 11 ∷ 12 ∷ []

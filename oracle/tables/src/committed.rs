@@ -53,6 +53,20 @@ impl Crate<'_> {
         unsigned(source::numbers(source::item(&self.table, name)))
     }
 
+    /// The numbers of each arm of a function that is a `match`; none where the table leaves it out.
+    fn arms(&self, name: &str) -> Vec<Vec<u64>> {
+        let Some((_, body)) = self.table.split_once(&format!("\npub fn {name}(")) else {
+            return Vec::new();
+        };
+        let (arms, _) = body.split_once("\n        _ => ").expect("the default");
+        arms.lines().filter(|line| line.contains(" => ")).map(|arm| unsigned(source::numbers(arm))).collect()
+    }
+
+    /// The lists of specs/, in this order, one after the other.
+    fn lists(&self, names: &[String]) -> Vec<u64> {
+        names.iter().flat_map(|name| list(&self.specs, &crate::files::camel(name))).collect()
+    }
+
     /// The constants are the lists of specs/, in this order.
     fn same(&self, names: &[String]) -> bool {
         let constants = names.iter().flat_map(|name| self.constant(name)).collect();
@@ -61,9 +75,7 @@ impl Crate<'_> {
 
     /// What the code holds is the lists of specs/, in this order.
     fn same_numbers(&self, numbers: Vec<u64>, names: &[String]) -> bool {
-        let lists: Vec<u64> =
-            names.iter().flat_map(|name| list(&self.specs, &crate::files::camel(name))).collect();
-        compare::list(&format!("{}, code against specs", self.name), numbers, &lists)
+        compare::list(&format!("{}, code against specs", self.name), numbers, &self.lists(names))
     }
 }
 
@@ -179,15 +191,38 @@ fn printables(root: &Path, data: &Data) -> bool {
 fn planes(table: &Crate) -> rows::Planes {
     ["0", "1"].map(|plane| {
         let constant = |name: &str| narrow(table.constant(&name.replace('#', plane)));
+        let rows = table.arms(&format!("row{plane}"));
+        assert!(rows.iter().enumerate().all(|(k, row)| row[0] == k as u64), "the arms are 0, 1, 2 ..");
+        let field = |low: u32| rows.iter().map(move |row| row[1] >> low & 0xFFFF).collect::<Vec<u64>>();
         rows::Plane {
-            starts: constant("STARTS#"),
-            ends: constant("ENDS#"),
-            steps: narrow(table.constant(&format!("STEPS{plane}"))),
-            deltas: constant("DELTAS#"),
+            starts: narrow(field(0)),
+            ends: narrow(field(16)),
+            steps: narrow(field(32)),
+            deltas: narrow(field(48)),
             multi: constant("MULTI#"),
             to: ["MULTI#_FIRST", "MULTI#_SECOND", "MULTI#_THIRD"].map(constant),
         }
     })
+}
+
+/// The rows' words and the pages are the lists of specs/.
+fn arms_same(table: &Crate, planes: &rows::Planes) -> bool {
+    let numbers = |plane: &rows::Plane| {
+        let steps = plane.steps.iter().map(|&step| step.into()).collect();
+        [plane.starts.clone(), plane.ends.clone(), steps, plane.deltas.clone()].concat()
+    };
+    let rows: Vec<u64> = planes.iter().flat_map(numbers).map(u64::from).collect();
+    let listed: Vec<String> = ["0", "1"]
+        .iter()
+        .filter(|plane| table.specs.contains(&format!("\npages{plane} =")))
+        .map(|plane| format!("pages{plane}"))
+        .collect();
+    let pages: Vec<u64> = ["page0", "page1"].iter().flat_map(|name| table.arms(name).concat()).collect();
+    compare::list(
+        &format!("{}, words of rows against specs", table.name),
+        rows,
+        &table.lists(&of_planes("STARTS# ENDS# STEPS# DELTAS#")),
+    ) & compare::list(&format!("{}, pages against specs", table.name), pages, &table.lists(&listed))
 }
 
 fn casing(root: &Path, data: &Data, name: &str) -> bool {
@@ -207,7 +242,8 @@ fn casing(root: &Path, data: &Data, name: &str) -> bool {
     let unicode: Rows = listed.chunks_exact(4).map(row).collect();
     let listed = |c: char| scalar(lists::mapped(&unicode, c as u32));
     // ASCII letters change by code and not by rows.
-    table.same(&of_planes("STARTS# ENDS# STEPS# DELTAS# MULTI# MULTI#_FIRST MULTI#_SECOND MULTI#_THIRD"))
+    table.same(&of_planes("ENDS# MULTI# MULTI#_FIRST MULTI#_SECOND MULTI#_THIRD"))
+        & arms_same(&table, &own)
         & compare::mapping(&format!("{folder}, table decoded against data"), NON_ASCII, whole, decoded)
         & compare::mapping(&format!("{folder}, unicode against data"), ALL, whole, listed)
 }

@@ -24,7 +24,7 @@ pub fn wide<T: Into<u64> + Copy>(numbers: &[T]) -> Vec<u64> {
     numbers.iter().map(|&number| number.into()).collect()
 }
 
-/// A file of Rattle constants.
+/// A file of Rattle constants and of functions that read like them.
 pub struct Consts(String);
 
 impl Consts {
@@ -48,6 +48,31 @@ impl Consts {
         } else {
             self.0 += &format!("{head}\n    {},\n];\n", elements.join(",\n    "));
         }
+    }
+
+    /// A line of its own, as it stands.
+    pub fn line(&mut self, text: &str) {
+        self.0 += &format!("{text}\n");
+    }
+
+    /// A function of one number that is a `match`: its arms, and what any other number gives.
+    pub fn arms(
+        &mut self,
+        says: &str,
+        head: &str,
+        ensures: &str,
+        arms: impl Iterator<Item = String>,
+        other: &str,
+    ) {
+        self.comment(says);
+        let (_, argument) = head.split_once('(').expect("an argument");
+        let (argument, _) = argument.split_once(':').expect("the argument's type");
+        self.0 +=
+            &format!("pub fn {head}\n    ensures {{ λ r. ⌜ {ensures} ⌝ }}\n{{\n    match {argument} {{\n");
+        for arm in arms {
+            self.0 += &format!("        {arm},\n");
+        }
+        self.0 += &format!("        _ => {other},\n    }}\n}}\n");
     }
 
     pub fn text(self) -> String {

@@ -67,6 +67,27 @@ fn announced(text: &str) -> usize {
 }
 
 impl Plane {
+    /// Each row in a word, 16 bits each, from the lowest up: first number, last number, step, delta.
+    pub fn words(&self) -> Vec<u64> {
+        let word = |row: usize| {
+            let fields = [self.starts[row], self.ends[row], self.steps[row].into(), self.deltas[row]];
+            fields.iter().rev().fold(0, |word, &field| word << 16 | u64::from(field))
+        };
+        (0..self.starts.len()).map(word).collect()
+    }
+
+    /// Each page of 256 numbers that has rows of either kind: the page, and the single rows that reach
+    /// into it, from the first to before the second.
+    pub fn pages(&self) -> Vec<[usize; 3]> {
+        let page = |page: usize| {
+            let first = self.ends.iter().filter(|&&end| usize::from(end) / 256 < page).count();
+            let last = self.starts.iter().filter(|&&start| usize::from(start) / 256 <= page).count();
+            let multi = self.multi.iter().any(|&from| usize::from(from) / 256 == page);
+            (first < last || multi).then_some([page, first, last])
+        };
+        (0..256).filter_map(page).collect()
+    }
+
     fn lookup(&self, low: u16) -> Option<[u16; 3]> {
         for row in 0..self.starts.len() {
             let (start, end) = (self.starts[row], self.ends[row]);

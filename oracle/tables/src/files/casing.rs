@@ -1,6 +1,6 @@
 //! The mappings: rows and multi rows of two planes.
 
-use super::{camel, of_rust, of_unicode, File, Inputs, DECIMAL, UNICODE_DATA};
+use super::{accessors, camel, of_rust, of_unicode, File, Inputs, DECIMAL, UNICODE_DATA};
 use crate::layout::{wide, Consts, Form, Lists, POINT};
 use crate::{rows, source};
 use reference::counts::{counts, Counts};
@@ -37,17 +37,19 @@ fn assert_mapping(
     }
 }
 
-/// Comment, name with # for the plane, type, form and numbers of each array.
-type Field = (&'static str, &'static str, &'static str, Form, Vec<u64>);
+/// Comment, name with # for the plane, whether it is an array too, form and numbers of each list. What
+/// is no array is read off the rows' words.
+type Field = (&'static str, &'static str, bool, Form, Vec<u64>);
 
 fn fields(plane: &rows::Plane) -> [Field; 8] {
-    let word = |says, name, numbers: &[u16]| (says, name, "u16", Form::Hex(4), wide(numbers));
+    let list = |says, name, numbers: &[u16]| (says, name, false, Form::Hex(4), wide(numbers));
+    let word = |says, name, numbers: &[u16]| (says, name, true, Form::Hex(4), wide(numbers));
     let parity = "rows: 2 where only numbers of the start's parity are covered, else 1";
     [
-        word("rows: the first number of each", "STARTS#", &plane.starts),
+        list("rows: the first number of each", "STARTS#", &plane.starts),
         word("rows: the last number of each", "ENDS#", &plane.ends),
-        (parity, "STEPS#", "u8", DECIMAL, wide(&plane.steps)),
-        word("rows: what is added to the low 16 bits, wrapping", "DELTAS#", &plane.deltas),
+        (parity, "STEPS#", false, DECIMAL, wide(&plane.steps)),
+        list("rows: what is added to the low 16 bits, wrapping", "DELTAS#", &plane.deltas),
         word("multi rows: the number mapped", "MULTI#", &plane.multi),
         word("multi rows: the first number of the answer", "MULTI#_FIRST", &plane.to[0]),
         word("multi rows: the second number of the answer", "MULTI#_SECOND", &plane.to[1]),
@@ -68,7 +70,10 @@ pub fn casing(inputs: &Inputs, name: &str, lut: &str, list: &str) -> Vec<File> {
     let floor = if name == "lower" { 0xC0 } else { 0xB5 };
     assert_mapping(&planes, then, &unicode, floor, inputs.reference.mapping(&mapping));
 
+    let krate = format!("casing_{name}");
     let mut consts = Consts::new(&of_rust(UNICODE_DATA));
+    accessors::uses(&mut consts, &krate);
+    let mut proofs = Vec::new();
     let mut specs = Lists::new(&of_rust(UNICODE_DATA));
     for (p, plane) in planes.iter().enumerate() {
         for (rows, left_out) in [(&plane.starts, "rows"), (&plane.multi, "multi rows")] {
@@ -78,13 +83,21 @@ pub fn casing(inputs: &Inputs, name: &str, lut: &str, list: &str) -> Vec<File> {
                 ));
             }
         }
-        for (says, constant, kind, form, numbers) in fields(plane) {
+        for (says, constant, array, form, numbers) in fields(plane) {
             let constant = constant.replace('#', &p.to_string());
             let says = format!("plane {p}, {says}");
-            if !numbers.is_empty() {
-                consts.add(&says, &constant, kind, form, &numbers);
+            if array && !numbers.is_empty() {
+                consts.add(&says, &constant, "u16", form, &numbers);
             }
             specs.add(&says, &camel(&constant), form, 1, &numbers);
+        }
+        if !plane.starts.is_empty() {
+            proofs.push(accessors::rows(&mut consts, &krate, p, plane));
+            proofs.push(accessors::pages(&mut consts, &krate, p, plane));
+            let says =
+                format!("plane {p}: each page that has rows, with its single rows from the first index to before the second");
+            let pages: Vec<u64> = plane.pages().concat().iter().map(|&number| number as u64).collect();
+            specs.add(&says, &format!("pages{p}"), DECIMAL, 3, &pages);
         }
     }
     let numbers: Vec<u64> =
@@ -95,10 +108,11 @@ pub fn casing(inputs: &Inputs, name: &str, lut: &str, list: &str) -> Vec<File> {
     let says =
         format!("{} rows of four: a number and its {name} mapping, unused places 0{of_title}", unicode.len());
     listed.add(&says, "rows", POINT, 4, &numbers);
-    let folder = format!("crates/casing_{name}");
-    vec![
-        (format!("{folder}/src/table.rt"), consts.text()),
-        (format!("{folder}/specs/Table.antt"), specs.text()),
-        (format!("{folder}/specs/Unicode.antt"), listed.text()),
-    ]
+    let mut files = vec![
+        (format!("crates/{krate}/src/table.rt"), consts.text()),
+        (format!("crates/{krate}/specs/Table.antt"), specs.text()),
+        (format!("crates/{krate}/specs/Unicode.antt"), listed.text()),
+    ];
+    files.extend(proofs);
+    files
 }

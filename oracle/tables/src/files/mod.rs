@@ -1,5 +1,6 @@
 //! The generated files: what stands in each, and the tests that what was read is right.
 
+mod accessors;
 mod casing;
 mod printable;
 mod sets;
