@@ -1,30 +1,17 @@
 // Runs the row reader on made-up rows: 41 goes to D800, which is no scalar value, and 42 to D800 less one, which is.
 use casing::Mapping;
+use casing::core::Found;
 
-const STARTS: [u16; 2] = [0x41, 0x42];
+// A row in a word, as the built-in rows stand: delta, step, last number, first number.
+const TO_D800: u64 = 0xD7BF000100410041;
 
-const ENDS: [u16; 2] = [0x41, 0x42];
+const TO_D7FF: u64 = 0xD7BD000100420042;
 
-const STEPS: [u8; 2] = [1, 1];
-
-const DELTAS: [u16; 2] = [0xD7BF, 0xD7BD];
-
-const NONE: [u16; 0] = [];
-
-fn mapped(low: u16) -> Mapping {
-    casing::core::lookup(
-        &STARTS,
-        &ENDS,
-        &STEPS,
-        &DELTAS,
-        &NONE,
-        &NONE,
-        &NONE,
-        &NONE,
-        0,
-        low,
-        Mapping::new(0, 0, 0),
-    )
+fn mapped(row: u64, low: u16) -> Mapping {
+    let Found::To(first, second, third) = casing::core::by_row(row, 0, low) else {
+        return Mapping::new(0, 0, 0);
+    };
+    Mapping::new(first, second, third)
 }
 
 fn print_number(name: &[u8], n: u32) {
@@ -44,6 +31,6 @@ fn print_mapping(m: Mapping) {
 }
 
 fn main() {
-    print_mapping(mapped(0x41));
-    print_mapping(mapped(0x42));
+    print_mapping(mapped(TO_D800, 0x41));
+    print_mapping(mapped(TO_D7FF, 0x42));
 }
