@@ -1,6 +1,6 @@
 -- A `match` with an arm for each entry of a list reads the list: in an arm the number is the arm's, and in the default it is none
 -- of them. Assumes nothing.
-use Prim.Native.Nat.{ℕ, zero, suc, _<_, _≤_}
+use Prim.Native.Nat.{ℕ, zero, suc, _+_, _*_, _/_, _%_, _<_, _≤_}
 use mathlib.Core.Path.{_≡_, sym, refl, ap}
 use mathlib.Core.Bool.{Bool, true, false, cond}
 use mathlib.Core.List.{List, [], _∷_}
@@ -8,13 +8,14 @@ use native.Mathlib.Omega.{arith}
 use borrow.Author.Tests.{ne-eqb}
 use lib.Dec.{eqb}
 use lib.ListN.{length, getD}
+use Rattle.casing.specs.declared.core.Four.{Four}
 use Rattle.casing.specs.declared.core.Page.{Page}
 use Rattle.casing.specs.declared.core.Page.the-variants as page
-use Rattle.casing.specs.Reading.{pageOf}
+use Rattle.casing.specs.Reading.{fourAt, pageOf}
 
--- an arm for each index of a list
-pub at-index : (l : List ℕ) {i k : ℕ} → i ≡ k → getD l k 0 ≡ getD l i 0
-at-index l e = ap (λ (z : ℕ). getD l z 0) (sym e)
+-- an arm for every four of a list
+pub at-four : (l : List ℕ) {i k : ℕ} → i ≡ k → fourAt l k ≡ fourAt l i
+at-four l e = ap (λ (z : ℕ). fourAt l z) (sym e)
 
 -- what the default knows: i is none of the numbers below n
 unfoldable pub Past : ℕ → ℕ → Type 0
@@ -31,8 +32,24 @@ beyond [] i h = refl
 beyond (n ∷ l) zero h = absurd (omega arith)
 beyond (n ∷ l) (suc i) h = beyond l i (omega arith)
 
-pub past-index : (l : List ℕ) (i : ℕ) → Past i (length l) → 0 ≡ getD l i 0
-past-index l i h = beyond l i (past i (length l) h)
+pub past-four : (l : List ℕ) (i n : ℕ) → length l ≤ n * 4 → Past i n → record { a = 0; b = 0; c = 0; d = 0 } ≡ fourAt l i
+past-four l i n h o =
+    let k = past i n o in
+    rw (sym (beyond l (i * 4) (omega arith)), sym (beyond l (i * 4 + 1) (omega arith)), sym (beyond l (i * 4 + 2) (omega arith)), sym (beyond l (i * 4 + 3) (omega arith))) refl
+
+-- the word at i among the four that hold it
+module _ (four : Four) (i : ℕ) (words : List ℕ) (e : four ≡ fourAt words (i / 4)) where
+  pub first-of : i % 4 ≡ 0 → four .a ≡ getD words i 0
+  first-of m = let z : i / 4 * 4 ≡ i = omega arith in rw z at (ap (λ (f : Four). f .a) e)
+
+  pub second-of : i % 4 ≡ 1 → four .b ≡ getD words i 0
+  second-of m = let z : i / 4 * 4 + 1 ≡ i = omega arith in rw z at (ap (λ (f : Four). f .b) e)
+
+  pub third-of : i % 4 ≡ 2 → four .c ≡ getD words i 0
+  third-of m = let z : i / 4 * 4 + 2 ≡ i = omega arith in rw z at (ap (λ (f : Four). f .c) e)
+
+  pub fourth-of : i % 4 ≡ 3 → four .d ≡ getD words i 0
+  fourth-of m = let z : i / 4 * 4 + 3 ≡ i = omega arith in rw z at (ap (λ (f : Four). f .d) e)
 
 -- an arm for each page of a list
 pub at-page : (l : List ℕ) {x p : ℕ} → x ≡ p → pageOf l p ≡ pageOf l x

@@ -9,6 +9,7 @@ use lib.ListN.{length, getD}
 use Rattle.casing.specs.declared.Mapping.{Mapping}
 use Rattle.casing.specs.declared.core.Found.{Found}
 use Rattle.casing.specs.declared.core.Found.the-variants.{To, Nothing}
+use Rattle.casing.specs.declared.core.Four.{Four}
 use Rattle.casing.specs.declared.core.Page.{Page}
 use Rattle.casing.specs.declared.core.Page.the-variants as page
 use Rattle.casing.specs.Answers.{answer}
@@ -37,6 +38,15 @@ unpacked word = (word % 65536, word / 65536 % 65536, word / 65536 / 65536 % 6553
 unfoldable pub packed : List Row → List ℕ
 packed [] = []
 packed (q ∷ qs) = wordOf q ∷ packed qs
+
+-- the words four by four, and 0 past the last
+abbrev pub fourAt : List ℕ → ℕ → Four
+fourAt words k =
+    record { a = getD words (k * 4) 0; b = getD words (k * 4 + 1) 0; c = getD words (k * 4 + 2) 0; d = getD words (k * 4 + 3) 0 }
+
+-- r is the word at i, if the four are those that hold it
+abbrev pub RowOf : Four → ℕ → ℕ → Type 0
+RowOf four i r = (words : List ℕ) → four ≡ fourAt words (i / 4) → r ≡ getD words i 0
 
 -- a flat list, page by page: the page, its first row, the row after its last; a page that is not listed is empty
 unfoldable pub pageOf : List ℕ → ℕ → Page

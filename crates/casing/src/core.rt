@@ -6,7 +6,7 @@ ghost use mathlib.Core.Bool.{true};
 ghost use Prim.Native.Nat.{ℕ, _<_, _≤_, _%_};
 ghost use lib.ListN.{length};
 ghost use Rattle.casing.specs.Rows.{zip, covers, moved, inPlane, inPlaneOr0, multiple, apart, tidyMultis};
-ghost use Rattle.casing.specs.Reading.{Says, unpacked, rowSays, Halved};
+ghost use Rattle.casing.specs.Reading.{Says, unpacked, rowSays, RowOf, Halved};
 
 // Where the rows send a number: one to three numbers, unused ones 0.
 pub enum Found {
@@ -18,6 +18,14 @@ pub enum Found {
 pub enum Page {
     Rows(usize, usize),
     Empty,
+}
+
+// Four packed rows, the four of an arm of a `match`: a check of the `match` costs by its arms.
+pub struct Four {
+    pub a: u64,
+    pub b: u64,
+    pub c: u64,
+    pub d: u64,
 }
 
 // Among the rows from first to before last: the first that does not end below x, or last.
@@ -83,6 +91,19 @@ fn lowest(word: u64) -> u16
     ensures { λ r. ⌜ r ≡ word % 65536 ⌝ }
 {
     (word % 0x10000) as u16
+}
+
+// The row at i of the four that hold it.
+pub fn row_of(four: Four, i: usize) -> u64
+    ensures { λ r. ⌜ RowOf four i r ⌝ }
+{
+    let at = i % 4;
+    match at {
+        0 => four.a,
+        1 => four.b,
+        2 => four.c,
+        _ => four.d,
+    }
 }
 
 // Where a packed single row sends the number with these low 16 bits.

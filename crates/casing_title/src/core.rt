@@ -35,7 +35,8 @@ fn plane0(low: u16) -> Found
     if i == last {
         return multi0(low);
     }
-    let Found::To(a, b, c) = casing::core::by_row(table::row0(i), 0, low) else {
+    let row = casing::core::row_of(table::rows0(i / 4), i);
+    let Found::To(a, b, c) = casing::core::by_row(row, 0, low) else {
         return multi0(low);
     };
     Found::To(a, b, c)

@@ -1,10 +1,10 @@
 // Generated from library/core/src/unicode/unicode_data.rs of Rust 1.97.0 by `oracle/make`; do not edit.
 ghost use mathlib.Core.Path.{_≡_};
-ghost use lib.ListN.{getD};
-ghost use Rattle.casing.specs.Reading.{packed, pageOf};
+ghost use Rattle.casing.specs.Reading.{packed, fourAt, pageOf};
 ghost use Rattle.casing.specs.Rows.{singles};
 ghost use Rattle.casing_title.specs.Planes as planes;
 ghost use Rattle.casing_title.specs.Table as lists;
+use casing::core::Four;
 use casing::core::Page;
 
 // plane 0, rows: the last number of each
@@ -145,38 +145,59 @@ pub const MULTI0_THIRD: [u16; 23] = [
     0x0000,
 ];
 
-// plane 0: a row in a word, 16 bits each: delta, step, last number, first number
-pub fn row0(i: usize) -> u64
-    ensures { λ r. ⌜ r ≡ getD (packed (singles planes.plane0)) i 0 ⌝ }
+// plane 0: four rows to an arm, a row in a word, 16 bits each: delta, step, last number, first number
+pub fn rows0(i: usize) -> Four
+    ensures { λ r. ⌜ r ≡ fourAt (packed (singles planes.plane0)) i ⌝ }
 {
     match i {
-        0 => 0x0001000101C401C4,
-        1 => 0x0000000101C501C5,
-        2 => 0xFFFF000101C601C6,
-        3 => 0x0001000101C701C7,
-        4 => 0x0000000101C801C8,
-        5 => 0xFFFF000101C901C9,
-        6 => 0x0001000101CA01CA,
-        7 => 0x0000000101CB01CB,
-        8 => 0xFFFF000101CC01CC,
-        9 => 0x0001000101F101F1,
-        10 => 0x0000000101F201F2,
-        11 => 0xFFFF000101F301F3,
-        12 => 0x0000000110FA10D0,
-        13 => 0x0000000110FF10FD,
-        14 => 0x000800011F871F80,
-        15 => 0x000000011F8F1F88,
-        16 => 0x000800011F971F90,
-        17 => 0x000000011F9F1F98,
-        18 => 0x000800011FA71FA0,
-        19 => 0x000000011FAF1FA8,
-        20 => 0x000900011FB31FB3,
-        21 => 0x000000011FBC1FBC,
-        22 => 0x000900011FC31FC3,
-        23 => 0x000000011FCC1FCC,
-        24 => 0x000900011FF31FF3,
-        25 => 0x000000011FFC1FFC,
-        _ => 0,
+        0 => Four {
+            a: 0x0001000101C401C4,
+            b: 0x0000000101C501C5,
+            c: 0xFFFF000101C601C6,
+            d: 0x0001000101C701C7,
+        },
+        1 => Four {
+            a: 0x0000000101C801C8,
+            b: 0xFFFF000101C901C9,
+            c: 0x0001000101CA01CA,
+            d: 0x0000000101CB01CB,
+        },
+        2 => Four {
+            a: 0xFFFF000101CC01CC,
+            b: 0x0001000101F101F1,
+            c: 0x0000000101F201F2,
+            d: 0xFFFF000101F301F3,
+        },
+        3 => Four {
+            a: 0x0000000110FA10D0,
+            b: 0x0000000110FF10FD,
+            c: 0x000800011F871F80,
+            d: 0x000000011F8F1F88,
+        },
+        4 => Four {
+            a: 0x000800011F971F90,
+            b: 0x000000011F9F1F98,
+            c: 0x000800011FA71FA0,
+            d: 0x000000011FAF1FA8,
+        },
+        5 => Four {
+            a: 0x000900011FB31FB3,
+            b: 0x000000011FBC1FBC,
+            c: 0x000900011FC31FC3,
+            d: 0x000000011FCC1FCC,
+        },
+        6 => Four {
+            a: 0x000900011FF31FF3,
+            b: 0x000000011FFC1FFC,
+            c: 0x0000000000000000,
+            d: 0x0000000000000000,
+        },
+        _ => Four {
+            a: 0,
+            b: 0,
+            c: 0,
+            d: 0,
+        },
     }
 }
 

@@ -59,7 +59,16 @@ impl Crate<'_> {
             return Vec::new();
         };
         let (arms, _) = body.split_once("\n        _ => ").expect("the default");
-        arms.lines().filter(|line| line.contains(" => ")).map(|arm| unsigned(source::numbers(arm))).collect()
+        let mut read: Vec<Vec<u64>> = Vec::new();
+        for line in arms.lines() {
+            if line.contains(" => ") {
+                read.push(Vec::new());
+            }
+            if let Some(arm) = read.last_mut() {
+                arm.extend(unsigned(source::numbers(line)));
+            }
+        }
+        read
     }
 
     /// The lists of specs/, in this order, one after the other.
@@ -191,9 +200,11 @@ fn printables(root: &Path, data: &Data) -> bool {
 fn planes(table: &Crate) -> rows::Planes {
     ["0", "1"].map(|plane| {
         let constant = |name: &str| narrow(table.constant(&name.replace('#', plane)));
-        let rows = table.arms(&format!("row{plane}"));
-        assert!(rows.iter().enumerate().all(|(k, row)| row[0] == k as u64), "the arms are 0, 1, 2 ..");
-        let field = |low: u32| rows.iter().map(move |row| row[1] >> low & 0xFFFF).collect::<Vec<u64>>();
+        let fours = table.arms(&format!("rows{plane}"));
+        assert!(fours.iter().enumerate().all(|(k, four)| four[0] == k as u64), "the arms are 0, 1, 2 ..");
+        let words: Vec<u64> =
+            fours.iter().flat_map(|four| four[1..].to_vec()).filter(|&word| word != 0).collect();
+        let field = |low: u32| words.iter().map(|word| word >> low & 0xFFFF).collect::<Vec<u64>>();
         rows::Plane {
             starts: narrow(field(0)),
             ends: narrow(field(16)),

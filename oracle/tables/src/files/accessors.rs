@@ -7,7 +7,7 @@ use crate::{layout::Consts, rows::Plane};
 /// A proof's middle: an answer for each arm, one for the default.
 fn answers(arms: usize, arm: &str, other: &str) -> String {
     let arms: String = (1..=arms).map(|k| format!("    (λ c. {arm} (c .match .keys{k}))\n")).collect();
-    format!("{arms}    (λ c. {other} _ (c .match .rest)))\n")
+    format!("{arms}    (λ c. {other} (c .match .rest)))\n")
 }
 
 /// The proof of the function `name` of table.rt: what it meets, what it needs, what it opens, its answers.
@@ -27,34 +27,44 @@ fn proof(krate: &str, name: &str, says: &str, needs: &str, opens: &str, answers:
 /// What table.rt cites, after its first line.
 pub fn uses(consts: &mut Consts, krate: &str) {
     consts.line("ghost use mathlib.Core.Path.{_≡_};");
-    consts.line("ghost use lib.ListN.{getD};");
-    consts.line("ghost use Rattle.casing.specs.Reading.{packed, pageOf};");
+    consts.line("ghost use Rattle.casing.specs.Reading.{packed, fourAt, pageOf};");
     consts.line("ghost use Rattle.casing.specs.Rows.{singles};");
     consts.line(&format!("ghost use Rattle.{krate}.specs.Planes as planes;"));
     consts.line(&format!("ghost use Rattle.{krate}.specs.Table as lists;"));
+    consts.line("use casing::core::Four;");
     consts.line("use casing::core::Page;");
 }
 
 pub fn rows(consts: &mut Consts, krate: &str, p: usize, plane: &Plane) -> File {
     let words = plane.words();
+    let fours = words.chunks(4).enumerate().map(|(k, four)| {
+        let word = |at: usize| four.get(at).copied().unwrap_or(0);
+        let fields = ["a", "b", "c", "d"].iter().enumerate();
+        let fields: Vec<String> =
+            fields.map(|(at, name)| format!("            {name}: 0x{:016X},\n", word(at))).collect();
+        format!("{k} => Four {{\n{}        }}", fields.concat())
+    });
     consts.arms(
-        &format!("plane {p}: a row in a word, 16 bits each: delta, step, last number, first number"),
-        &format!("row{p}(i: usize) -> u64"),
-        &format!("r ≡ getD (packed (singles planes.plane{p})) i 0"),
-        words.iter().enumerate().map(|(k, word)| format!("{k} => 0x{word:016X}")),
-        "0",
+        &format!("plane {p}: four rows to an arm, a row in a word, 16 bits each: delta, step, last number, first number"),
+        &format!("rows{p}(i: usize) -> Four"),
+        &format!("r ≡ fourAt (packed (singles planes.plane{p})) i"),
+        fours,
+        "Four {\n            a: 0,\n            b: 0,\n            c: 0,\n            d: 0,\n        }",
     );
     let needs = format!(
-        "use Rattle.casing.specs.Reading.{{packed}}\n\
+        "use lib.Dec.{{lit≤}}\n\
+         use Rattle.casing.specs.Reading.{{packed}}\n\
          use Rattle.casing.specs.Rows.{{zip, singles}}\n\
-         use Rattle.casing.proofs.Arms.{{Past, at-index, past-index}}\n\
+         use Rattle.casing.proofs.Arms.{{Past, at-four, past-four}}\n\
          use Rattle.{krate}.specs.Planes.{{plane{p}}}\n\
          use Rattle.{krate}.specs.Table.{{starts{p}, ends{p}, steps{p}, deltas{p}}}\n"
     );
     let opens = format!("packed zip Past starts{p} ends{p} steps{p} deltas{p}");
     let list = format!("(packed (singles plane{p}))");
-    let answers = answers(words.len(), &format!("at-index {list}"), &format!("past-index {list}"));
-    proof(krate, &format!("row{p}"), "an arm for each packed row", &needs, &opens, &answers)
+    let arms = words.len().div_ceil(4);
+    let past = format!("past-four {list} _ {arms} (lit≤ tt)");
+    let answers = answers(arms, &format!("at-four {list}"), &past);
+    proof(krate, &format!("rows{p}"), "an arm for every four packed rows", &needs, &opens, &answers)
 }
 
 pub fn pages(consts: &mut Consts, krate: &str, p: usize, plane: &Plane) -> File {
@@ -72,6 +82,6 @@ pub fn pages(consts: &mut Consts, krate: &str, p: usize, plane: &Plane) -> File 
          use Rattle.{krate}.specs.Table.{{pages{p}}}\n"
     );
     let opens = format!("pageOf Unlisted pages{p}");
-    let answers = answers(pages.len(), &format!("at-page pages{p}"), &format!("no-page pages{p}"));
+    let answers = answers(pages.len(), &format!("at-page pages{p}"), &format!("no-page pages{p} _"));
     proof(krate, &format!("page{p}"), "an arm for each page of the list", &needs, &opens, &answers)
 }

@@ -1,6 +1,8 @@
 -- `casing_upper::core::plane0` meets its contract: an empty page has no rows; else the row that halving finds among the page's
 -- decides, and the multi rows where it does not. Assumes nothing.
 use mathlib.Core.Path.{_∙_, sym}
+use Rattle.casing.specs.Reading.{packed}
+use Rattle.casing.specs.Rows.{singles}
 use Rattle.casing.proofs.Pages.{empty-page, page-rows, past-rows, row-found}
 use Rattle.casing_upper.specs.Planes.{plane0}
 use Rattle.casing_upper.specs.Table.{ends0, pages0}
@@ -41,8 +43,11 @@ returns-2 c =
     λ other. c .multi0 .ensures other
     ∙ sym (past-rows plane0 pages0 readable0 0 _ _ _ _ (sym (paged .first .given .1) ∙ paged .before .before .page0 .ensures) (placed .row-at .ensures) _ (c .before .if1 .taken))
 
-row0-requires : tie.Need-row0-requires
-row0-requires c κs = search needs
+rows0-requires : tie.Need-rows0-requires
+rows0-requires c κs = search needs
+
+row-of-requires : tie.Need-row-of-requires
+row-of-requires c κs = search needs
 
 by-row-requires : tie.Need-by-row-requires
 by-row-requires c κs = search needs
@@ -60,22 +65,22 @@ returns-3 : tie.Need-returns-3
 unfolding ends0
 returns-3 c =
     let called = c .before .before .before in
-    let tested = called .before .before in
+    let tested = called .before .before .before in
     let placed = tested .before in
     let paged = placed .before .before .before in
     λ other. c .multi02 .ensures other
     ∙ row-found plane0 pages0 readable0 0 _ _ _ _ (sym (paged .first .given .1) ∙ paged .before .before .page0 .ensures) (placed .row-at .ensures) _ (tested .if1 .left)
-    _ _ (sym (c .before .enum-told2 .given .1) ∙ called .by-row .ensures) (called .before .row0 .ensures)
+    _ _ (sym (c .before .enum-told2 .given .1) ∙ called .by-row .ensures) (called .before .row-of .ensures (packed (singles plane0)) (called .before .before .rows0 .ensures))
 
 returns-4 : tie.Need-returns-4
 unfolding ends0
 returns-4 c =
     let called = c .before .before .before in
-    let tested = called .before .before in
+    let tested = called .before .before .before in
     let placed = tested .before in
     let paged = placed .before .before .before in
     λ other. row-found plane0 pages0 readable0 0 _ _ _ _ (sym (paged .first .given .1) ∙ paged .before .before .page0 .ensures) (placed .row-at .ensures) _ (tested .if1 .left)
-    _ _ (sym (c .before .a .given .1) ∙ called .by-row .ensures) (called .before .row0 .ensures)
+    _ _ (sym (c .before .a .given .1) ∙ called .by-row .ensures) (called .before .row-of .ensures (packed (singles plane0)) (called .before .before .rows0 .ensures))
 
 pub plane0-spec : {M : Type 1} → statement M
 plane0-spec =
@@ -89,7 +94,8 @@ plane0-spec =
     row-at-requires
     multi0-requires
     returns-2
-    row0-requires
+    rows0-requires
+    row-of-requires
     by-row-requires
     enum-known-a
     enum-told-2
