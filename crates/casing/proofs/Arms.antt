@@ -1,5 +1,5 @@
--- A `match` with an arm for each entry of a list reads the list: in an arm the number is the arm's, and in the default it is none
--- of them. Assumes nothing.
+-- What the default of a `match` over fours of rows or over pages knows: the number is none of the arms'. And the row among the four
+-- that hold it. Assumes nothing.
 use Prim.Native.Nat.{ℕ, zero, suc, _+_, _*_, _/_, _%_, _<_, _≤_}
 use mathlib.Core.Path.{_≡_, sym, refl, ap}
 use mathlib.Core.Bool.{Bool, true, false, cond}
@@ -8,33 +8,21 @@ use native.Mathlib.Omega.{arith}
 use borrow.Author.Tests.{ne-eqb}
 use lib.Dec.{eqb}
 use lib.ListN.{length, getD}
+use Rattle.sets.proofs.Arms.{NoneBelow, none-below}
 use Rattle.casing.specs.declared.core.Four.{Four}
 use Rattle.casing.specs.declared.core.Page.{Page}
 use Rattle.casing.specs.declared.core.Page.the-variants as page
 use Rattle.casing.specs.Reading.{fourAt, pageOf}
-
--- an arm for every four of a list
-pub at-four : (l : List ℕ) {i k : ℕ} → i ≡ k → fourAt l k ≡ fourAt l i
-at-four l e = ap (λ (z : ℕ). fourAt l z) (sym e)
-
--- what the default knows: i is none of the numbers below n
-unfoldable pub Past : ℕ → ℕ → Type 0
-Past i zero = Unit
-Past i (suc n) = Past i n × (i ≡ n → ⊥)
-
-past : (i n : ℕ) → Past i n → n ≤ i
-unfolding Past
-past i zero h = omega arith
-past i (suc n) h = let l = past i n (h .0) in let u = h .1 in omega arith
 
 beyond : (l : List ℕ) (i : ℕ) → length l ≤ i → 0 ≡ getD l i 0
 beyond [] i h = refl
 beyond (n ∷ l) zero h = absurd (omega arith)
 beyond (n ∷ l) (suc i) h = beyond l i (omega arith)
 
-pub past-four : (l : List ℕ) (i n : ℕ) → length l ≤ n * 4 → Past i n → record { a = 0; b = 0; c = 0; d = 0 } ≡ fourAt l i
+-- past the fours of a list
+pub past-four : (l : List ℕ) (i n : ℕ) → length l ≤ n * 4 → NoneBelow n i → record { a = 0; b = 0; c = 0; d = 0 } ≡ fourAt l i
 past-four l i n h o =
-    let k = past i n o in
+    let k = none-below n o in
     rw (sym (beyond l (i * 4) (omega arith)), sym (beyond l (i * 4 + 1) (omega arith)), sym (beyond l (i * 4 + 2) (omega arith)), sym (beyond l (i * 4 + 3) (omega arith))) refl
 
 -- the word at i among the four that hold it
@@ -51,11 +39,7 @@ module _ (four : Four) (i : ℕ) (words : List ℕ) (e : four ≡ fourAt words (
   pub fourth-of : i % 4 ≡ 3 → four .d ≡ getD words i 0
   fourth-of m = let z : i / 4 * 4 + 3 ≡ i = omega arith in rw z at (ap (λ (f : Four). f .d) e)
 
--- an arm for each page of a list
-pub at-page : (l : List ℕ) {x p : ℕ} → x ≡ p → pageOf l p ≡ pageOf l x
-at-page l e = ap (λ (z : ℕ). pageOf l z) (sym e)
-
--- what the default knows, over what is known already: x is none of the pages
+-- what the default of the pages knows, over what is known already: x is none of them
 unfoldable pub Unlisted : Type 0 → List ℕ → ℕ → Type 0
 Unlisted known [] x = known
 Unlisted known (p ∷ []) x = known

@@ -4,7 +4,7 @@ use mathlib.Core.Path.{_≡_, ap, sym}
 use mathlib.Core.Logic.{⊎-elim}
 use native.Mathlib.Nat.{eq-or-lt-of-le}
 
-pub arm : (f : ℕ → ℕ) {k i : ℕ} → i ≡ k → f k ≡ f i
+pub arm : {A : Type 0} (f : ℕ → A) {k i : ℕ} → i ≡ k → f k ≡ f i
 arm f h = ap f (sym h)
 
 -- that i is none of the numbers below k, as the last arm knows it

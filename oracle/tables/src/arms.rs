@@ -111,20 +111,32 @@ impl Accessor {
     }
 }
 
-/// The numbers of each arm of a function, but for the last.
+/// The numbers of each arm of a function, the index first, but for the last arm; none where there is no such function.
 pub fn read(text: &str, name: &str) -> Vec<Vec<u64>> {
-    let (_, body) =
-        text.split_once(&format!("\npub fn {name}(")).unwrap_or_else(|| panic!("no function {name}"));
-    let (_, arms) = body.split_once(" {\n").expect("the arms");
-    let (arms, _) = arms.split_once("_ => ").expect("the last arm");
-    let answer = |line: &str| line.split_once(" => ").map(|(_, answer)| source::numbers(answer));
-    arms.lines()
-        .filter_map(answer)
-        .map(|numbers| numbers.into_iter().map(|number| number as u64).collect())
-        .collect()
+    let Some((_, body)) = text.split_once(&format!("\npub fn {name}(")) else {
+        return Vec::new();
+    };
+    let (arms, _) = body.split_once("\n        _ => ").expect("the last arm");
+    let mut read: Vec<Vec<u64>> = Vec::new();
+    for line in arms.lines() {
+        if line.contains(" => ") {
+            read.push(Vec::new());
+        }
+        if let Some(arm) = read.last_mut() {
+            arm.extend(source::numbers(line).into_iter().map(|number| number as u64));
+        }
+    }
+    read
+}
+
+/// What each arm answers, where the indices are 0, 1, 2 ..
+pub fn answers(text: &str, name: &str) -> Vec<Vec<u64>> {
+    let arms = read(text, name);
+    assert!(arms.iter().enumerate().all(|(k, arm)| arm[0] == k as u64), "{name}: the arms are 0, 1, 2 ..");
+    arms.iter().map(|arm| arm[1..].to_vec()).collect()
 }
 
 /// The bytes of a function of words that hold eight each.
 pub fn read_eights(text: &str, name: &str) -> Vec<u8> {
-    read(text, name).iter().flat_map(|word| word[0].to_le_bytes()).collect()
+    answers(text, name).iter().flat_map(|word| word[0].to_le_bytes()).collect()
 }

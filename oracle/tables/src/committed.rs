@@ -53,24 +53,6 @@ impl Crate<'_> {
         unsigned(source::numbers(source::item(&self.table, name)))
     }
 
-    /// The numbers of each arm of a function that is a `match`; none where the table leaves it out.
-    fn arms(&self, name: &str) -> Vec<Vec<u64>> {
-        let Some((_, body)) = self.table.split_once(&format!("\npub fn {name}(")) else {
-            return Vec::new();
-        };
-        let (arms, _) = body.split_once("\n        _ => ").expect("the default");
-        let mut read: Vec<Vec<u64>> = Vec::new();
-        for line in arms.lines() {
-            if line.contains(" => ") {
-                read.push(Vec::new());
-            }
-            if let Some(arm) = read.last_mut() {
-                arm.extend(unsigned(source::numbers(line)));
-            }
-        }
-        read
-    }
-
     /// The lists of specs/, in this order, one after the other.
     fn lists(&self, names: &[String]) -> Vec<u64> {
         names.iter().flat_map(|name| list(&self.specs, &crate::files::camel(name))).collect()
@@ -152,7 +134,7 @@ fn bitset(table: &Crate) -> (Vec<u64>, Ranges) {
     let mut chunk_map = arms::read_eights(text, "chunk_map_eight");
     chunk_map.truncate(length.split_once(';').expect("a number").0.parse().expect("a number"));
     let (words, pairs): (Vec<_>, Vec<_>) =
-        arms::read(text, "word_at").into_iter().partition(|numbers| numbers.len() == 1);
+        arms::answers(text, "word_at").into_iter().partition(|numbers| numbers.len() == 1);
     let canonical = words.concat();
     let which = |word: u64| canonical.iter().position(|&other| other == word).expect("a canonical word");
     let bitset = Bitset {
@@ -200,10 +182,8 @@ fn printables(root: &Path, data: &Data) -> bool {
 fn planes(table: &Crate) -> rows::Planes {
     ["0", "1"].map(|plane| {
         let constant = |name: &str| narrow(table.constant(&name.replace('#', plane)));
-        let fours = table.arms(&format!("rows{plane}"));
-        assert!(fours.iter().enumerate().all(|(k, four)| four[0] == k as u64), "the arms are 0, 1, 2 ..");
-        let words: Vec<u64> =
-            fours.iter().flat_map(|four| four[1..].to_vec()).filter(|&word| word != 0).collect();
+        let fours = arms::answers(&table.table, &format!("rows{plane}")).concat();
+        let words: Vec<u64> = fours.into_iter().filter(|&word| word != 0).collect();
         let field = |low: u32| words.iter().map(|word| word >> low & 0xFFFF).collect::<Vec<u64>>();
         rows::Plane {
             starts: narrow(field(0)),
@@ -228,7 +208,8 @@ fn arms_same(table: &Crate, planes: &rows::Planes) -> bool {
         .filter(|plane| table.specs.contains(&format!("\npages{plane} =")))
         .map(|plane| format!("pages{plane}"))
         .collect();
-    let pages: Vec<u64> = ["page0", "page1"].iter().flat_map(|name| table.arms(name).concat()).collect();
+    let pages: Vec<u64> =
+        ["page0", "page1"].iter().flat_map(|name| arms::read(&table.table, name).concat()).collect();
     compare::list(
         &format!("{}, words of rows against specs", table.name),
         rows,

@@ -53,17 +53,18 @@ pub fn rows(consts: &mut Consts, krate: &str, p: usize, plane: &Plane) -> File {
     );
     let needs = format!(
         "use lib.Dec.{{lit≤}}\n\
-         use Rattle.casing.specs.Reading.{{packed}}\n\
+         use Rattle.sets.proofs.Arms.{{arm, NoneBelow}}\n\
+         use Rattle.casing.specs.Reading.{{packed, fourAt}}\n\
          use Rattle.casing.specs.Rows.{{zip, singles}}\n\
-         use Rattle.casing.proofs.Arms.{{Past, at-four, past-four}}\n\
+         use Rattle.casing.proofs.Arms.{{past-four}}\n\
          use Rattle.{krate}.specs.Planes.{{plane{p}}}\n\
          use Rattle.{krate}.specs.Table.{{starts{p}, ends{p}, steps{p}, deltas{p}}}\n"
     );
-    let opens = format!("packed zip Past starts{p} ends{p} steps{p} deltas{p}");
+    let opens = format!("packed zip NoneBelow starts{p} ends{p} steps{p} deltas{p}");
     let list = format!("(packed (singles plane{p}))");
     let arms = words.len().div_ceil(4);
     let past = format!("past-four {list} _ {arms} (lit≤ tt)");
-    let answers = answers(arms, &format!("at-four {list}"), &past);
+    let answers = answers(arms, &format!("arm (fourAt {list})"), &past);
     proof(krate, &format!("rows{p}"), "an arm for every four packed rows", &needs, &opens, &answers)
 }
 
@@ -77,11 +78,12 @@ pub fn pages(consts: &mut Consts, krate: &str, p: usize, plane: &Plane) -> File 
         "Page::Empty",
     );
     let needs = format!(
-        "use Rattle.casing.specs.Reading.{{pageOf}}\n\
-         use Rattle.casing.proofs.Arms.{{Unlisted, at-page, no-page}}\n\
+        "use Rattle.sets.proofs.Arms.{{arm}}\n\
+         use Rattle.casing.specs.Reading.{{pageOf}}\n\
+         use Rattle.casing.proofs.Arms.{{Unlisted, no-page}}\n\
          use Rattle.{krate}.specs.Table.{{pages{p}}}\n"
     );
     let opens = format!("pageOf Unlisted pages{p}");
-    let answers = answers(pages.len(), &format!("at-page pages{p}"), &format!("no-page pages{p} _"));
+    let answers = answers(pages.len(), &format!("arm (pageOf pages{p})"), &format!("no-page pages{p} _"));
     proof(krate, &format!("page{p}"), "an arm for each page of the list", &needs, &opens, &answers)
 }
