@@ -1,7 +1,7 @@
 -- Any two results that a promise of the boundary allows are equal, and so is what memory holds. Assumes nothing.
 use mathlib.Core.Path.{_≡_, _∙_, sym, ap}
 use denote.Ref.{now}
-use Rattle.becktrestle.specs.Results.{Crosses, lengthOf, sizesOf, numbersOf}
+use Rattle.results.specs.Results.{Crosses, lengthOf, sizesOf, numbersOf}
 use Rattle.becktrestle.proofs.characters.becktrestle_is_alphabetic.Reads as is-alphabetic
 use Rattle.becktrestle.proofs.characters.becktrestle_is_lowercase.Reads as is-lowercase
 use Rattle.becktrestle.proofs.characters.becktrestle_is_uppercase.Reads as is-uppercase

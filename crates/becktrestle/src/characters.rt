@@ -5,9 +5,9 @@ ghost use Rattle.scalar.specs.Scalars.{answered};
 ghost use Rattle.sets.specs.Lists.{holds};
 ghost use Rattle.properties.specs.Properties.{alphabetic, lowercase, uppercase, titlecase, cased, numeric, alphanumeric, whitespace, control};
 ghost use Rattle.printable.specs.Unicode.{unprintable};
-ghost use Rattle.becktrestle.specs.Results.{Crossed, yesNoOf};
-use crate::YesNo;
-use crate::as_yes_no;
+ghost use Rattle.results.specs.Results.{Crossed, yesNoOf};
+use results::YesNo;
+use results::core::as_yes_no;
 
 #[no_mangle]
 pub extern "C" fn becktrestle_is_alphabetic(n: u32) -> YesNo

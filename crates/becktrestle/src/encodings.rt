@@ -3,20 +3,9 @@ ghost use mathlib.Core.Path.{_≡_};
 ghost use Rattle.encoding.specs.Tables.{utf8, utf16, lenUtf8, lenUtf16};
 ghost use Rattle.encoding.specs.Lengths.{measured};
 ghost use Rattle.encoding.specs.Writes.{Encodes};
-ghost use Rattle.becktrestle.specs.Results.{Crossed, Crosses, lengthOf};
-use crate::Count;
-use encoding::Length;
-
-fn as_length(l: Length) -> Count
-    ensures { λ r. ⌜ r ≡ lengthOf l ⌝ }
-{
-    let r = l.refusal();
-    Count {
-        refusal: r.number(),
-        carried: r.carried(),
-        count: l.units(),
-    }
-}
+ghost use Rattle.results.specs.Results.{Crossed, Crosses, lengthOf};
+use results::Count;
+use results::core::as_length;
 
 // The bytes of n in UTF-8; refuses 1, then 2.
 #[no_mangle]

@@ -1,22 +1,11 @@
 // Flat lists of ranges.
 ghost use mathlib.Core.Path.{_≡_};
 ghost use Rattle.sets.specs.Answers.{listChecked, listSearched};
-ghost use Rattle.becktrestle.specs.Results.{Crossed, rangesOf, yesNoOf};
-use crate::Count;
-use crate::YesNo;
-use crate::as_yes_no;
-use sets::ListCheck;
-
-fn as_ranges(l: ListCheck) -> Count
-    ensures { λ r. ⌜ r ≡ rangesOf l ⌝ }
-{
-    let r = l.refusal();
-    Count {
-        refusal: r.number(),
-        carried: r.carried(),
-        count: l.ranges(),
-    }
-}
+ghost use Rattle.results.specs.Results.{Crossed, rangesOf, yesNoOf};
+use results::Count;
+use results::YesNo;
+use results::core::as_ranges;
+use results::core::as_yes_no;
 
 // How many ranges a list has; refuses 3, 4, 5.
 #[no_mangle]

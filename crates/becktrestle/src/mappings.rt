@@ -4,21 +4,9 @@ ghost use Rattle.casing.specs.Listed.{mappingOf};
 ghost use Rattle.casing_lower.specs.Unicode as lower;
 ghost use Rattle.casing_title.specs.Unicode as title;
 ghost use Rattle.casing_upper.specs.Unicode as upper;
-ghost use Rattle.becktrestle.specs.Results.{Crossed, mappedOf};
-use crate::Mapped;
-use casing::Mapping;
-
-fn as_mapped(m: Mapping) -> Mapped
-    ensures { λ r. ⌜ r ≡ mappedOf m ⌝ }
-{
-    let r = m.refusal;
-    let to = m.to;
-    Mapped {
-        refusal: r.number(),
-        count: m.count,
-        to,
-    }
-}
+ghost use Rattle.results.specs.Results.{Crossed, mappedOf};
+use results::Mapped;
+use results::core::as_mapped;
 
 #[no_mangle]
 pub extern "C" fn becktrestle_to_lowercase(n: u32) -> Mapped

@@ -1,21 +1,9 @@
 // From a list to a skip table.
 ghost use mathlib.Core.Path.{_≡_};
 ghost use Rattle.pack.specs.Answers.{Packs};
-ghost use Rattle.becktrestle.specs.Results.{Crosses, sizesOf};
-use crate::Sizes;
-use pack::Packed;
-
-fn as_sizes(p: Packed) -> Sizes
-    ensures { λ r. ⌜ r ≡ sizesOf p ⌝ }
-{
-    let r = p.refusal();
-    Sizes {
-        refusal: r.number(),
-        carried: r.carried(),
-        headers: p.headers(),
-        offsets: p.offsets(),
-    }
-}
+ghost use Rattle.results.specs.Results.{Crosses, sizesOf};
+use results::Sizes;
+use results::core::as_sizes;
 
 // Packs a list; refuses 3, 4, 5, 6, 7, and then writes nothing.
 #[no_mangle]

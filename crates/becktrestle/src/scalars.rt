@@ -1,20 +1,10 @@
 // Scalar values and the ASCII tests.
 ghost use mathlib.Core.Path.{_≡_};
 ghost use Rattle.scalar.specs.Scalars.{checked, asciiDigit, asciiUpper, asciiLower};
-ghost use Rattle.becktrestle.specs.Results.{Crossed, scalarOf};
-use crate::Verdict;
+ghost use Rattle.results.specs.Results.{Crossed, scalarOf};
+use results::Verdict;
+use results::core::as_scalar;
 use scalar::Scalar;
-use scalar::ScalarCheck;
-
-fn as_scalar(check: ScalarCheck) -> Verdict
-    ensures { λ v. ⌜ v ≡ scalarOf check ⌝ }
-{
-    let r = check.refusal();
-    Verdict {
-        refusal: r.number(),
-        carried: r.carried(),
-    }
-}
 
 // Whether n is a scalar value: refuses 1, then 2.
 #[no_mangle]

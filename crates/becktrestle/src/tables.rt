@@ -1,33 +1,11 @@
 // Skip tables: the check, and the search in a lent table.
 ghost use mathlib.Core.Path.{_≡_};
 ghost use Rattle.skip.specs.Answers.{checks, finds};
-ghost use Rattle.becktrestle.specs.Results.{Crossed, checkedOf, soughtOf};
-use crate::Sought;
-use crate::Verdict;
-use skip::Checked;
-use skip::Found;
-
-fn as_checked(check: Checked) -> Verdict
-    ensures { λ v. ⌜ v ≡ checkedOf check ⌝ }
-{
-    let refused = check.refusal();
-    Verdict {
-        refusal: refused.number(),
-        carried: refused.carried(),
-    }
-}
-
-fn as_sought(f: Found) -> Sought
-    ensures { λ r. ⌜ r ≡ soughtOf f ⌝ }
-{
-    let r = f.refusal();
-    Sought {
-        refusal: r.number(),
-        carried: r.carried(),
-        read: f.read(),
-        yes: f.yes(),
-    }
-}
+ghost use Rattle.results.specs.Results.{Crossed, checkedOf, soughtOf};
+use results::Sought;
+use results::Verdict;
+use results::core::as_checked;
+use results::core::as_sought;
 
 // Whether a table keeps the rules; refuses 8.
 #[no_mangle]

@@ -1,20 +1,9 @@
 // From a skip table to a list.
 ghost use mathlib.Core.Path.{_≡_};
 ghost use Rattle.unpack.specs.Answers.{Unpacks};
-ghost use Rattle.becktrestle.specs.Results.{Crosses, numbersOf};
-use crate::Count;
-use unpack::Unpacked;
-
-fn as_numbers(u: Unpacked) -> Count
-    ensures { λ r. ⌜ r ≡ numbersOf u ⌝ }
-{
-    let r = u.refusal();
-    Count {
-        refusal: r.number(),
-        carried: r.carried(),
-        count: u.numbers(),
-    }
-}
+ghost use Rattle.results.specs.Results.{Crosses, numbersOf};
+use results::Count;
+use results::core::as_numbers;
 
 // Unpacks a table; refuses 8, then 10, and then writes nothing.
 #[no_mangle]

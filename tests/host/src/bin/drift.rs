@@ -10,8 +10,11 @@ fn main() {
     let root = Path::new(env!("CARGO_MANIFEST_DIR")).join("../..");
     let read = |path: &str| fs::read_to_string(root.join(path)).unwrap_or_else(|e| panic!("{path}: {e}"));
     let mut rattle = Said::new();
-    for file in fs::read_dir(root.join("crates/becktrestle/src")).expect("the boundary's sources") {
-        rattle.extend(rattle_says(&fs::read_to_string(file.expect("a file").path()).expect("a source")));
+    // The functions are those of the boundary, the structs those of what crosses it.
+    for folder in ["crates/becktrestle/src", "crates/results/src"] {
+        for file in fs::read_dir(root.join(folder)).expect("the boundary's sources") {
+            rattle.extend(rattle_says(&fs::read_to_string(file.expect("a file").path()).expect("a source")));
+        }
     }
     let header = header_says(&read("include/becktrestle.h"));
     let rust = rust_says(&read("bindings/rust/src/ffi.rs"));

@@ -1,9 +1,9 @@
--- `becktrestle::packing::as_sizes` meets its contract: each field is what the answer's own methods promise. Assumes nothing.
+-- `results::core::as_sizes` meets its contract: each field is what the answer's own methods promise. Assumes nothing.
 use mathlib.Core.Path.{_∙_, ap}
 use borrow.Author.Needs.{needs}
 use Rattle.scalar.specs.Refusals.{number, carried}
-use Rattle.becktrestle.proofs.packing.as_sizes.Statement.{statement}
-use Rattle.becktrestle.proofs.packing.as_sizes.Tie as tie
+use Rattle.results.proofs.core.as_sizes.Statement.{statement}
+use Rattle.results.proofs.core.as_sizes.Tie as tie
 
 refusal-requires : tie.Need-refusal-requires
 refusal-requires c κs = search needs

@@ -16,12 +16,12 @@ use Rattle.pack.specs.declared.Packed.{Packed}
 use Rattle.unpack.specs.Answers.{unpackedRefusal, unpackedNumbers}
 use Rattle.unpack.specs.declared.Unpacked.{Unpacked}
 use Rattle.casing.specs.declared.Mapping.{Mapping}
-use Rattle.becktrestle.specs.declared.Verdict.{Verdict}
-use Rattle.becktrestle.specs.declared.YesNo.{YesNo}
-use Rattle.becktrestle.specs.declared.Count.{Count}
-use Rattle.becktrestle.specs.declared.Sought.{Sought}
-use Rattle.becktrestle.specs.declared.Sizes.{Sizes}
-use Rattle.becktrestle.specs.declared.Mapped.{Mapped}
+use Rattle.results.specs.declared.Verdict.{Verdict}
+use Rattle.results.specs.declared.YesNo.{YesNo}
+use Rattle.results.specs.declared.Count.{Count}
+use Rattle.results.specs.declared.Sought.{Sought}
+use Rattle.results.specs.declared.Sizes.{Sizes}
+use Rattle.results.specs.declared.Mapped.{Mapped}
 
 -- r is what crosses of an answer that the entry's promise allows; the promise also says what memory holds
 pub record Crosses {A B : Type 0} (values : A → B) (promise : A → Type 0) (r : B) : Type 0 where
