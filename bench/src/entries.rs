@@ -1,14 +1,31 @@
 //! The scalar entries: ours, and the same answers of the Rust behind an extern "C" call that returns the same struct.
 use crate::{best, row};
-use becktrestle::ffi::{self, Mapped, YesNo};
+use becktrestle::ffi::{self, Count, Mapped, Verdict, YesNo};
+use std::hint::black_box;
 
 type Property = unsafe extern "C" fn(u32) -> YesNo;
 type Mapping = unsafe extern "C" fn(u32) -> Mapped;
 
+/// The refusal of a number that no `char` holds.
+fn refused(n: u32) -> u32 {
+    if n > 0x10FFFF {
+        1
+    } else {
+        2
+    }
+}
+
 fn plain(n: u32, holds: impl Fn(char) -> bool) -> YesNo {
     match char::from_u32(n) {
         Some(c) => YesNo { refusal: 0, carried: 0, yes: holds(c) },
-        None => YesNo { refusal: if n > 0x10FFFF { 1 } else { 2 }, carried: 0, yes: false },
+        None => YesNo { refusal: refused(n), carried: 0, yes: false },
+    }
+}
+
+fn counted(n: u32, count: impl FnOnce(char) -> usize) -> Count {
+    match char::from_u32(n) {
+        Some(c) => Count { refusal: 0, carried: 0, count: count(c) },
+        None => Count { refusal: refused(n), carried: 0, count: 0 },
     }
 }
 
@@ -18,7 +35,7 @@ fn three(n: u32, map: impl Fn(char) -> [char; 3]) -> Mapped {
             let to = map(c).map(u32::from);
             Mapped { refusal: 0, count: 1 + (to[1] != 0) as usize + (to[2] != 0) as usize, to }
         }
-        None => Mapped { refusal: if n > 0x10FFFF { 1 } else { 2 }, count: 0, to: [0; 3] },
+        None => Mapped { refusal: refused(n), count: 0, to: [0; 3] },
     }
 }
 
@@ -71,7 +88,7 @@ pub fn properties(what: &str, numbers: &[u32]) {
         ("is_printable", ffi::becktrestle_is_printable, rust_printable, None),
     ];
     for (name, ours, rust, rustc) in entries {
-        timed(name, what, numbers, ours, rust, rustc);
+        timed(name, what, numbers, ours, Some(rust), rustc);
     }
 }
 
@@ -106,7 +123,7 @@ pub fn mappings(what: &str, numbers: &[u32]) {
         ("to_titlecase", ffi::becktrestle_to_titlecase, rust_title, None),
     ];
     for (name, ours, rust, rustc) in entries {
-        timed(name, what, numbers, ours, rust, rustc);
+        timed(name, what, numbers, ours, Some(rust), rustc);
     }
 }
 
@@ -115,15 +132,83 @@ fn timed<T>(
     what: &str,
     numbers: &[u32],
     ours: unsafe extern "C" fn(u32) -> T,
-    rust: unsafe extern "C" fn(u32) -> T,
+    rust: Option<unsafe extern "C" fn(u32) -> T>,
     rustc: Option<unsafe extern "C" fn(u32) -> T>,
 ) {
-    let at_hand = reference::rust::AT_HAND;
-    let mut candidates = vec![ours];
-    candidates.extend(at_hand.then_some(rust));
-    candidates.extend(rustc);
+    let rust = rust.filter(|_| reference::rust::AT_HAND);
+    let candidates: Vec<_> = [Some(ours), rust, rustc].into_iter().flatten().collect();
     let mut times = best(numbers, &candidates).into_iter();
     let ours = times.next().expect("our time");
-    let rust = if at_hand { times.next() } else { None };
+    let rust = rust.and_then(|_| times.next());
     row(name, what, ours, rust, times.next());
+}
+
+extern "C" fn rustc_check(n: u32) -> Verdict {
+    Verdict { refusal: if char::from_u32(n).is_some() { 0 } else { refused(n) }, carried: 0 }
+}
+
+extern "C" fn rustc_digit(n: u32) -> bool {
+    u8::try_from(n).is_ok_and(|b| b.is_ascii_digit())
+}
+
+extern "C" fn rustc_ascii_upper(n: u32) -> bool {
+    u8::try_from(n).is_ok_and(|b| b.is_ascii_uppercase())
+}
+
+extern "C" fn rustc_ascii_lower(n: u32) -> bool {
+    u8::try_from(n).is_ok_and(|b| b.is_ascii_lowercase())
+}
+
+/// Scalar values and the ASCII tests; the Rust of 1.97.0 has the same code as rustc's `char`.
+pub fn scalars(what: &str, numbers: &[u32]) {
+    timed("check_scalar", what, numbers, ffi::becktrestle_check_scalar, None, Some(rustc_check));
+    timed("is_ascii_digit", what, numbers, ffi::becktrestle_is_ascii_digit, None, Some(rustc_digit));
+    timed("is_ascii_uppercase", what, numbers, ffi::becktrestle_is_ascii_uppercase, None, Some(rustc_ascii_upper));
+    timed("is_ascii_lowercase", what, numbers, ffi::becktrestle_is_ascii_lowercase, None, Some(rustc_ascii_lower));
+}
+
+extern "C" fn rustc_len_utf8(n: u32) -> Count {
+    counted(n, char::len_utf8)
+}
+
+extern "C" fn rustc_len_utf16(n: u32) -> Count {
+    counted(n, char::len_utf16)
+}
+
+extern "C" fn encode_utf8(n: u32) -> Count {
+    let mut out = [0; 4];
+    // SAFETY: the pointer and the length are those of the buffer.
+    let count = unsafe { ffi::becktrestle_encode_utf8(n, out.as_mut_ptr(), out.len()) };
+    black_box(out);
+    count
+}
+
+extern "C" fn rustc_encode_utf8(n: u32) -> Count {
+    let mut out = [0; 4];
+    let count = counted(n, |c| c.encode_utf8(&mut out).len());
+    black_box(out);
+    count
+}
+
+extern "C" fn encode_utf16(n: u32) -> Count {
+    let mut out = [0; 2];
+    // SAFETY: the pointer and the length are those of the buffer.
+    let count = unsafe { ffi::becktrestle_encode_utf16(n, out.as_mut_ptr(), out.len()) };
+    black_box(out);
+    count
+}
+
+extern "C" fn rustc_encode_utf16(n: u32) -> Count {
+    let mut out = [0; 2];
+    let count = counted(n, |c| c.encode_utf16(&mut out).len());
+    black_box(out);
+    count
+}
+
+/// Lengths and encoders, each into a buffer of its own that is long enough.
+pub fn encodings(what: &str, numbers: &[u32]) {
+    timed("len_utf8", what, numbers, ffi::becktrestle_len_utf8, None, Some(rustc_len_utf8));
+    timed("len_utf16", what, numbers, ffi::becktrestle_len_utf16, None, Some(rustc_len_utf16));
+    timed("encode_utf8", what, numbers, encode_utf8, None, Some(rustc_encode_utf8));
+    timed("encode_utf16", what, numbers, encode_utf16, None, Some(rustc_encode_utf16));
 }

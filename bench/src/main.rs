@@ -32,10 +32,12 @@ fn best<T>(numbers: &[u32], candidates: &[unsafe extern "C" fn(u32) -> T]) -> Ve
 
 fn main() {
     println!("ns for a call, best of {ROUNDS} rounds; ratio = ours / Rust 1.97.0, or / rustc's char where that source is not at hand");
-    println!("{:16} {:10} {:>8} {:>8} {:>8} {:>7}", "entry", "numbers", "ours", "1.97.0", "rustc", "ratio");
+    println!("{:18} {:10} {:>8} {:>8} {:>8} {:>7}", "entry", "numbers", "ours", "1.97.0", "rustc", "ratio");
     for (what, numbers) in texts::sets() {
         entries::properties(what, &numbers);
         entries::mappings(what, &numbers);
+        entries::scalars(what, &numbers);
+        entries::encodings(what, &numbers);
     }
     tables::all();
 }
@@ -43,5 +45,5 @@ fn main() {
 fn row(entry: &str, what: &str, ours: f64, rust: Option<f64>, rustc: Option<f64>) {
     let shown = |ns: Option<f64>| ns.map_or("-".to_string(), |ns| format!("{ns:.2}"));
     let ratio = rust.or(rustc).map(|against| ours / against);
-    println!("{entry:16} {what:10} {ours:8.2} {:>8} {:>8} {:>7}", shown(rust), shown(rustc), shown(ratio));
+    println!("{entry:18} {what:10} {ours:8.2} {:>8} {:>8} {:>7}", shown(rust), shown(rustc), shown(ratio));
 }

@@ -8,7 +8,8 @@ const ROUNDS: usize = 9;
 
 pub fn all() {
     println!("\nns for a call on a list or table of so many ranges, best of {ROUNDS} rounds");
-    println!("{:>8} {:>10} {:>10} {:>10} {:>12} {:>10}", "ranges", "pack", "check", "search", "search_list", "unpack");
+    let columns = ["ranges", "pack", "check", "search", "check_list", "search_list", "unpack"];
+    println!("{}", columns.map(|column| format!("{column:>12}")).concat());
     let data = Data::read();
     let flat = |name: &str| -> Vec<u32> { data.property(name).without_ascii().flat().iter().map(|&n| n as u32).collect() };
     let full: Vec<u32> = (0..1023).flat_map(|k| [k * 300, k * 300 + 20]).collect();
@@ -47,13 +48,17 @@ fn one(list: &[u32]) {
     let search = best(|| {
         let _ = black_box(tables::search(black_box(headers), offsets, x));
     });
+    let check_list = best(|| {
+        let _ = black_box(tables::check_list(black_box(list)));
+    });
     let search_list = best(|| {
         let _ = black_box(tables::search_list(black_box(list), x));
     });
     let unpack = best(|| {
         let _ = black_box(tables::unpack(black_box(headers), offsets, &mut out));
     });
-    println!("{ranges:8} {pack:10.0} {check:10.0} {search:10.0} {search_list:12.0} {unpack:10.0}");
+    let times = [pack, check, search, check_list, search_list, unpack];
+    println!("{ranges:12}{}", times.map(|ns| format!("{ns:12.0}")).concat());
 }
 
 fn best(mut call: impl FnMut()) -> f64 {
