@@ -1,6 +1,7 @@
 /* The near side of the bridge: the library's functions for a machine that does not run x86-64 code. Each call goes to the far
  * side, a program with the library in it under an emulator, and its answer and the slices come back. So the tests are the
- * same on every machine. Calls at one number after another, with the same slices, are asked for in growing batches. */
+ * same on every machine. Calls at one number after another, with the same slices, are asked for in growing batches, and a call
+ * that the last batch holds is answered from it: the functions keep nothing between calls. */
 #define _GNU_SOURCE
 #include "wire.h"
 

@@ -7,7 +7,7 @@ ghost use Rattle.properties.specs.Properties.{alphabetic, lowercase, uppercase,
 ghost use Rattle.printable.specs.Unicode.{unprintable};
 ghost use Rattle.results.specs.Results.{Crossed, yesNoOf};
 use results::YesNo;
-use results::core::as_yes_no;
+use results::crossing::as_yes_no;
 
 #[no_mangle]
 pub extern "C" fn becktrestle_is_alphabetic(n: u32) -> YesNo

@@ -5,7 +5,7 @@ ghost use Rattle.encoding.specs.Lengths.{measured};
 ghost use Rattle.encoding.specs.Writes.{Encodes};
 ghost use Rattle.results.specs.Results.{Crossed, Crosses, lengthOf};
 use results::Count;
-use results::core::as_length;
+use results::crossing::as_length;
 
 // The bytes of n in UTF-8; refuses 1, then 2.
 #[no_mangle]

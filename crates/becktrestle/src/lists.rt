@@ -4,8 +4,8 @@ ghost use Rattle.sets.specs.Answers.{listChecked, listSearched};
 ghost use Rattle.results.specs.Results.{Crossed, rangesOf, yesNoOf};
 use results::Count;
 use results::YesNo;
-use results::core::as_ranges;
-use results::core::as_yes_no;
+use results::crossing::as_ranges;
+use results::crossing::as_yes_no;
 
 // How many ranges a list has; refuses 3, 4, 5.
 #[no_mangle]

@@ -6,7 +6,7 @@ ghost use Rattle.casing_title.specs.Unicode as title;
 ghost use Rattle.casing_upper.specs.Unicode as upper;
 ghost use Rattle.results.specs.Results.{Crossed, mappedOf};
 use results::Mapped;
-use results::core::as_mapped;
+use results::crossing::as_mapped;
 
 #[no_mangle]
 pub extern "C" fn becktrestle_to_lowercase(n: u32) -> Mapped

@@ -3,7 +3,7 @@ ghost use mathlib.Core.Path.{_≡_};
 ghost use Rattle.pack.specs.Answers.{Packs};
 ghost use Rattle.results.specs.Results.{Crosses, sizesOf};
 use results::Sizes;
-use results::core::as_sizes;
+use results::crossing::as_sizes;
 
 // Packs a list; refuses 3, 4, 5, 6, 7, and then writes nothing.
 #[no_mangle]

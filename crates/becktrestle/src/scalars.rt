@@ -3,7 +3,7 @@ ghost use mathlib.Core.Path.{_≡_};
 ghost use Rattle.scalar.specs.Scalars.{checked, asciiDigit, asciiUpper, asciiLower};
 ghost use Rattle.results.specs.Results.{Crossed, scalarOf};
 use results::Verdict;
-use results::core::as_scalar;
+use results::crossing::as_scalar;
 use scalar::Scalar;
 
 // Whether n is a scalar value: refuses 1, then 2.

@@ -4,8 +4,8 @@ ghost use Rattle.skip.specs.Answers.{checks, finds};
 ghost use Rattle.results.specs.Results.{Crossed, checkedOf, soughtOf};
 use results::Sought;
 use results::Verdict;
-use results::core::as_checked;
-use results::core::as_sought;
+use results::crossing::as_checked;
+use results::crossing::as_sought;
 
 // Whether a table keeps the rules; refuses 8.
 #[no_mangle]

@@ -3,7 +3,7 @@ ghost use mathlib.Core.Path.{_≡_};
 ghost use Rattle.unpack.specs.Answers.{Unpacks};
 ghost use Rattle.results.specs.Results.{Crosses, numbersOf};
 use results::Count;
-use results::core::as_numbers;
+use results::crossing::as_numbers;
 
 // Unpacks a table; refuses 8, then 10, and then writes nothing.
 #[no_mangle]

@@ -146,7 +146,7 @@ pub const MULTI0_THIRD: [u16; 23] = [
 ];
 
 // plane 0: four rows to an arm, a row in a word, 16 bits each: delta, step, last number, first number
-pub fn rows0(i: usize) -> Four
+pub(crate) fn rows0(i: usize) -> Four
     ensures { λ r. ⌜ r ≡ fourAt (packed (singles planes.plane0)) i ⌝ }
 {
     match i {
@@ -202,7 +202,7 @@ pub fn rows0(i: usize) -> Four
 }
 
 // plane 0: the single rows of each page that has rows, from the first index to before the second
-pub fn page0(page: u16) -> Page
+pub(crate) fn page0(page: u16) -> Page
     ensures { λ r. ⌜ r ≡ pageOf lists.pages0 page ⌝ }
 {
     match page {

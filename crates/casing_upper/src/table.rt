@@ -621,7 +621,7 @@ pub const MULTI0_THIRD: [u16; 102] = [
 ];
 
 // plane 0: four rows to an arm, a row in a word, 16 bits each: delta, step, last number, first number
-pub fn rows0(i: usize) -> Four
+pub(crate) fn rows0(i: usize) -> Four
     ensures { λ r. ⌜ r ≡ fourAt (packed (singles planes.plane0)) i ⌝ }
 {
     match i {
@@ -917,7 +917,7 @@ pub fn rows0(i: usize) -> Four
 }
 
 // plane 0: the single rows of each page that has rows, from the first index to before the second
-pub fn page0(page: u16) -> Page
+pub(crate) fn page0(page: u16) -> Page
     ensures { λ r. ⌜ r ≡ pageOf lists.pages0 page ⌝ }
 {
     match page {
@@ -965,7 +965,7 @@ pub const ENDS1: [u16; 12] = [
 ];
 
 // plane 1: four rows to an arm, a row in a word, 16 bits each: delta, step, last number, first number
-pub fn rows1(i: usize) -> Four
+pub(crate) fn rows1(i: usize) -> Four
     ensures { λ r. ⌜ r ≡ fourAt (packed (singles planes.plane1)) i ⌝ }
 {
     match i {
@@ -997,7 +997,7 @@ pub fn rows1(i: usize) -> Four
 }
 
 // plane 1: the single rows of each page that has rows, from the first index to before the second
-pub fn page1(page: u16) -> Page
+pub(crate) fn page1(page: u16) -> Page
     ensures { λ r. ⌜ r ≡ pageOf lists.pages1 page ⌝ }
 {
     match page {

@@ -34,9 +34,6 @@ and-both s t p q = rw (p, q) refl
 pub and-not-left : (s t : Bool) → s ≡ false → (s && t) ≡ false
 and-not-left s t p = rw p refl
 
-pub and-not-right : (s t : Bool) → s ≡ true → t ≡ false → (s && t) ≡ false
-and-not-right s t p q = rw (p, q) refl
-
 pub and-given : (s t : Bool) → s ≡ true → (s && t) ≡ t
 and-given s t p = rw p refl
 

@@ -15,7 +15,7 @@ pub const CHUNK_MAP_LENGTH: usize = 123;
 const UNREACHED: u64 = 0x0123456789ABCDEF;
 
 // the chunk of each 1,024 numbers, eight bytes to an arm, the lowest first
-pub fn chunk_map_eight(k: usize) -> u64
+pub(crate) fn chunk_map_eight(k: usize) -> u64
     requires { ⌜ 8 * k < length chunkMap ⌝ }
     ensures { λ r. ⌜ r ≡ eight chunkMap k ⌝ }
 {
@@ -41,7 +41,7 @@ pub fn chunk_map_eight(k: usize) -> u64
 }
 
 // the index bytes of the chunks, eight to an arm, the lowest first
-pub fn chunks_eight(k: usize) -> u64
+pub(crate) fn chunks_eight(k: usize) -> u64
     requires { ⌜ 8 * k < length chunks ⌝ }
     ensures { λ r. ⌜ r ≡ eight chunks k ⌝ }
 {
@@ -91,7 +91,7 @@ pub fn chunks_eight(k: usize) -> u64
 }
 
 // the word of an index byte: the canonical words, and then the pairs, each by its mapping and its word
-pub fn word_at(index: usize) -> u64
+pub(crate) fn word_at(index: usize) -> u64
     requires { ⌜ index < length canonical + length mappedWord ⌝ }
     ensures { λ r. ⌜ r ≡ wordAt canonical mappedWord mapping index ⌝ }
 {

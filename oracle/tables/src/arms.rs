@@ -1,5 +1,7 @@
-//! A table as a Rattle function with an arm for each index: its text, its proof, and the numbers read back.
+//! A table as a Rattle function that is a `match`: its text, its proof, and the numbers read back. A `match` becomes a load from
+//! read-only data, where an array would be built anew at each call.
 
+use crate::files::File;
 use crate::layout::Form;
 use crate::{bitset, source};
 
@@ -34,6 +36,39 @@ pub fn eights(bytes: &[u8]) -> Vec<Arm> {
     bytes.chunks(8).map(|bytes| Arm::Number(word(bytes))).collect()
 }
 
+/// A function of one number that is a `match`, for its own crate: its clauses, its arms, and what any other number gives.
+pub fn function(says: &str, head: &str, clauses: &[String], arms: &[String], other: &str) -> String {
+    let (_, argument) = head.split_once('(').expect("an argument");
+    let (argument, _) = argument.split_once(':').expect("the argument's type");
+    let clauses: String = clauses.iter().map(|clause| format!("    {clause}\n")).collect();
+    let arms: String = arms.iter().map(|arm| format!("        {arm},\n")).collect();
+    format!(
+        "\n// {says}\npub(crate) fn {head}\n{clauses}{{\n    match {argument} {{\n{arms}        _ => {other},\n    }}\n}}\n"
+    )
+}
+
+pub fn requires(fact: &str) -> String {
+    format!("requires {{ ⌜ {fact} ⌝ }}")
+}
+
+pub fn ensures(fact: &str) -> String {
+    format!("ensures {{ λ r. ⌜ {fact} ⌝ }}")
+}
+
+/// The proof of such a function of a crate's table.rt, and its path: what it meets, what it cites, what it opens, an answer for
+/// each need.
+pub fn proof(source: &str, krate: &str, name: &str, says: &str, cites: &str, opens: &str, answers: &str) -> File {
+    let own = format!("Rattle.{krate}.proofs.table.{name}");
+    let spec = name.replace('_', "-") + "-spec";
+    let text = format!(
+        "-- Generated from {source} by `oracle/make`; do not edit.\n\
+        -- `{krate}::table::{name}` meets its contract: {says}. Assumes nothing.\n\
+        {cites}use {own}.Statement.{{statement}}\nuse {own}.Tie as tie\n\n\
+        pub {spec} : {{M : Type 1}} → statement M\nunfolding {opens}\n{spec} =\n    tie.close\n    (tie.spec\n{answers}"
+    );
+    (format!("crates/{krate}/proofs/table/{name}/Proof.antt"), text)
+}
+
 /// The constant that the last arms name.
 pub fn unreached() -> String {
     format!(
@@ -45,7 +80,7 @@ pub fn unreached() -> String {
 
 impl Accessor {
     pub fn code(&self) -> String {
-        let Accessor { says, name, index, requires, answers, .. } = self;
+        let Accessor { says, name, index, answers, .. } = self;
         let arm = |(k, arm): (usize, &Arm)| {
             let (number, text) = match *arm {
                 Arm::Number(number) => (number, WORD.write(number)),
@@ -54,20 +89,15 @@ impl Accessor {
                 }
             };
             assert_ne!(number, UNREACHED);
-            format!("        {k} => {text},\n")
+            format!("{k} => {text}")
         };
-        let arms: String = self.arms.iter().enumerate().map(arm).collect();
-        format!(
-            "\n// {says}\n\
-            pub fn {name}({index}: usize) -> u64\n    \
-                requires {{ ⌜ {requires} ⌝ }}\n    \
-                ensures {{ λ r. ⌜ r ≡ {answers} {index} ⌝ }}\n\
-            {{\n    match {index} {{\n{arms}        _ => UNREACHED,\n    }}\n}}\n"
-        )
+        let arms: Vec<String> = self.arms.iter().enumerate().map(arm).collect();
+        let clauses = [requires(self.requires), ensures(&format!("r ≡ {answers} {index}"))];
+        function(says, &format!("{name}({index}: usize) -> u64"), &clauses, &arms, "UNREACHED")
     }
 
     /// Each arm answers what its index does. The prover asks first what `mapped` requires at each call, which is nothing.
-    pub fn proof(&self, source: &str, folder: &str) -> String {
+    pub fn proof(&self, source: &str, krate: &str) -> File {
         let Accessor { name, answers, .. } = self;
         let pairs = self.arms.iter().filter(|arm| matches!(arm, Arm::Mapped(..))).count();
         let mut answered = "    (λ c κs. tt)\n".repeat(pairs);
@@ -85,35 +115,26 @@ impl Accessor {
                 }
             };
         }
+        answered += &format!(
+            "    (λ c. absurd (omega (arith, none-below {} (c .match .rest)))))\n",
+            self.arms.len()
+        );
+        let of_calls = if pairs > 0 { "use mathlib.Core.Path.{_∙_}\n" } else { "" };
         let uses = |(module, names): &Opened| format!("use {module}.{{{}}}\n", names.replace(' ', ", "));
         let opened: String = self.opened.iter().map(uses).collect();
-        let unfolding: Vec<&str> = self.opened.iter().map(|&(_, names)| names).collect();
-        let of_calls = "use mathlib.Core.Path.{_∙_}\n";
-        let own = format!("Rattle.{folder}.proofs.table.{name}");
-        let spec = name.replace('_', "-") + "-spec";
-        format!(
-            "-- Generated from {source} by `oracle/make`; do not edit.\n\
-            -- `{folder}::table::{name}` meets its contract: each arm answers what its index does, and the last is past the\n\
-            -- table. Assumes nothing.\n\
-            {}use native.Mathlib.Omega.{{arith}}\n\
-            use Rattle.sets.proofs.Arms.{{arm, NoneBelow, none-below}}\n\
-            {opened}\
-            use {own}.Statement.{{statement}}\n\
-            use {own}.Tie as tie\n\n\
-            pub {spec} : {{M : Type 1}} → statement M\n\
-            unfolding {} NoneBelow\n\
-            {spec} =\n    tie.close\n    (tie.spec\n{answered}    \
-            (λ c. absurd (omega (arith, none-below {} (c .match .rest)))))\n",
-            if pairs > 0 { of_calls } else { "" },
-            unfolding.join(" "),
-            self.arms.len(),
-        )
+        let cites = format!(
+            "{of_calls}use native.Mathlib.Omega.{{arith}}\n\
+            use Rattle.sets.proofs.Arms.{{arm, NoneBelow, none-below}}\n{opened}"
+        );
+        let unfolded: Vec<&str> = self.opened.iter().map(|&(_, names)| names).collect();
+        let opens = unfolded.join(" ") + " NoneBelow";
+        proof(source, krate, name, "an arm for each index", &cites, &opens, &answered)
     }
 }
 
 /// The numbers of each arm of a function, the index first, but for the last arm; none where there is no such function.
 pub fn read(text: &str, name: &str) -> Vec<Vec<u64>> {
-    let Some((_, body)) = text.split_once(&format!("\npub fn {name}(")) else {
+    let Some((_, body)) = text.split_once(&format!("\npub(crate) fn {name}(")) else {
         return Vec::new();
     };
     let (arms, _) = body.split_once("\n        _ => ").expect("the last arm");

@@ -55,24 +55,9 @@ impl Consts {
         self.0 += &format!("{text}\n");
     }
 
-    /// A function of one number that is a `match`: its arms, and what any other number gives.
-    pub fn arms(
-        &mut self,
-        says: &str,
-        head: &str,
-        ensures: &str,
-        arms: impl Iterator<Item = String>,
-        other: &str,
-    ) {
-        self.comment(says);
-        let (_, argument) = head.split_once('(').expect("an argument");
-        let (argument, _) = argument.split_once(':').expect("the argument's type");
-        self.0 +=
-            &format!("pub fn {head}\n    ensures {{ λ r. ⌜ {ensures} ⌝ }}\n{{\n    match {argument} {{\n");
-        for arm in arms {
-            self.0 += &format!("        {arm},\n");
-        }
-        self.0 += &format!("        _ => {other},\n    }}\n}}\n");
+    /// Text as it stands, a function for instance.
+    pub fn text_of(&mut self, text: &str) {
+        self.0 += text;
     }
 
     pub fn text(self) -> String {

@@ -1,27 +1,13 @@
-//! The functions that read rows and pages by a `match`, an arm for each, with their proofs. A `match`
-//! becomes a load from read-only data, where an array would be built anew at each call.
+//! The functions that read a mapping's rows and pages by a `match`, with their proofs.
 
 use super::{of_rust, File, UNICODE_DATA};
+use crate::arms::{ensures, function, proof};
 use crate::{layout::Consts, rows::Plane};
 
 /// A proof's middle: an answer for each arm, one for the default.
 fn answers(arms: usize, arm: &str, other: &str) -> String {
     let arms: String = (1..=arms).map(|k| format!("    (λ c. {arm} (c .match .keys{k}))\n")).collect();
     format!("{arms}    (λ c. {other} (c .match .rest)))\n")
-}
-
-/// The proof of the function `name` of table.rt: what it meets, what it needs, what it opens, its answers.
-fn proof(krate: &str, name: &str, says: &str, needs: &str, opens: &str, answers: &str) -> File {
-    let source = of_rust(UNICODE_DATA);
-    let place = format!("Rattle.{krate}.proofs.table.{name}");
-    let text = format!(
-        "-- Generated from {source} by `oracle/make`; do not edit.\n\
-         -- `{krate}::table::{name}` meets its contract: {says}. Assumes nothing.\n\
-         {needs}use {place}.Statement.{{statement}}\nuse {place}.Tie as tie\n\n\
-         pub {name}-spec : {{M : Type 1}} → statement M\nunfolding {opens}\n{name}-spec =\n    \
-         tie.close\n    (tie.spec\n{answers}"
-    );
-    (format!("crates/{krate}/proofs/table/{name}/Proof.antt"), text)
 }
 
 /// What table.rt cites, after its first line.
@@ -44,13 +30,13 @@ pub fn rows(consts: &mut Consts, krate: &str, p: usize, plane: &Plane) -> File {
             fields.map(|(at, name)| format!("            {name}: 0x{:016X},\n", word(at))).collect();
         format!("{k} => Four {{\n{}        }}", fields.concat())
     });
-    consts.arms(
+    consts.text_of(&function(
         &format!("plane {p}: four rows to an arm, a row in a word, 16 bits each: delta, step, last number, first number"),
         &format!("rows{p}(i: usize) -> Four"),
-        &format!("r ≡ fourAt (packed (singles planes.plane{p})) i"),
-        fours,
+        &[ensures(&format!("r ≡ fourAt (packed (singles planes.plane{p})) i"))],
+        &fours.collect::<Vec<_>>(),
         "Four {\n            a: 0,\n            b: 0,\n            c: 0,\n            d: 0,\n        }",
-    );
+    ));
     let needs = format!(
         "use lib.Dec.{{lit≤}}\n\
          use Rattle.sets.proofs.Arms.{{arm, NoneBelow}}\n\
@@ -65,18 +51,20 @@ pub fn rows(consts: &mut Consts, krate: &str, p: usize, plane: &Plane) -> File {
     let arms = words.len().div_ceil(4);
     let past = format!("past-four {list} _ {arms} (lit≤ tt)");
     let answers = answers(arms, &format!("arm (fourAt {list})"), &past);
-    proof(krate, &format!("rows{p}"), "an arm for every four packed rows", &needs, &opens, &answers)
+    let says = "an arm for every four packed rows";
+    proof(&of_rust(UNICODE_DATA), krate, &format!("rows{p}"), says, &needs, &opens, &answers)
 }
 
 pub fn pages(consts: &mut Consts, krate: &str, p: usize, plane: &Plane) -> File {
     let pages = plane.pages();
-    consts.arms(
+    let arms = pages.iter().map(|[page, first, last]| format!("0x{page:02X} => Page::Rows({first}, {last})"));
+    consts.text_of(&function(
         &format!("plane {p}: the single rows of each page that has rows, from the first index to before the second"),
         &format!("page{p}(page: u16) -> Page"),
-        &format!("r ≡ pageOf lists.pages{p} page"),
-        pages.iter().map(|[page, first, last]| format!("0x{page:02X} => Page::Rows({first}, {last})")),
+        &[ensures(&format!("r ≡ pageOf lists.pages{p} page"))],
+        &arms.collect::<Vec<_>>(),
         "Page::Empty",
-    );
+    ));
     let needs = format!(
         "use Rattle.sets.proofs.Arms.{{arm}}\n\
          use Rattle.casing.specs.Reading.{{pageOf}}\n\
@@ -85,5 +73,6 @@ pub fn pages(consts: &mut Consts, krate: &str, p: usize, plane: &Plane) -> File 
     );
     let opens = format!("pageOf Unlisted pages{p}");
     let answers = answers(pages.len(), &format!("arm (pageOf pages{p})"), &format!("no-page pages{p} _"));
-    proof(krate, &format!("page{p}"), "an arm for each page of the list", &needs, &opens, &answers)
+    let says = "an arm for each page of the list";
+    proof(&of_rust(UNICODE_DATA), krate, &format!("page{p}"), says, &needs, &opens, &answers)
 }

@@ -93,10 +93,7 @@ pub fn bitset(inputs: &Inputs, property: &str, comment: &str) -> Vec<File> {
         (format!("crates/{folder}/src/table.rt"), bitset_code(&table, &folder, &accessors)),
         (format!("crates/{folder}/specs/Table.antt"), specs.text()),
     ];
-    files.extend(accessors.iter().map(|accessor| {
-        let path = format!("crates/{folder}/proofs/table/{}/Proof.antt", accessor.name);
-        (path, accessor.proof(&of_rust(UNICODE_DATA), &folder))
-    }));
+    files.extend(accessors.iter().map(|accessor| accessor.proof(&of_rust(UNICODE_DATA), &folder)));
     files.extend(flat_and_unicode(&format!("crates/{folder}"), property, &list, &flat, &unicode));
     files
 }

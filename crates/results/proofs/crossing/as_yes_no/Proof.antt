@@ -1,9 +1,9 @@
--- `results::core::as_yes_no` meets its contract: each field is what the answer's own methods promise. Assumes nothing.
+-- `results::crossing::as_yes_no` meets its contract: each field is what the answer's own methods promise. Assumes nothing.
 use mathlib.Core.Path.{_∙_, ap}
 use borrow.Author.Needs.{needs}
 use Rattle.scalar.specs.Refusals.{number, carried}
-use Rattle.results.proofs.core.as_yes_no.Statement.{statement}
-use Rattle.results.proofs.core.as_yes_no.Tie as tie
+use Rattle.results.proofs.crossing.as_yes_no.Statement.{statement}
+use Rattle.results.proofs.crossing.as_yes_no.Tie as tie
 
 refusal-requires : tie.Need-refusal-requires
 refusal-requires c κs = search needs

@@ -1,7 +1,7 @@
--- `results::core::as_mapped` meets its contract: each field is what the answer's own methods promise. Assumes nothing.
+-- `results::crossing::as_mapped` meets its contract: each field is what the answer's own methods promise. Assumes nothing.
 use borrow.Author.Needs.{needs}
-use Rattle.results.proofs.core.as_mapped.Statement.{statement}
-use Rattle.results.proofs.core.as_mapped.Tie as tie
+use Rattle.results.proofs.crossing.as_mapped.Statement.{statement}
+use Rattle.results.proofs.crossing.as_mapped.Tie as tie
 
 number-requires : tie.Need-number-requires
 number-requires c κs = search needs

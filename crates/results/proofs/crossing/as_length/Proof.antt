@@ -1,9 +1,9 @@
--- `results::core::as_length` meets its contract: each field is what the answer's own methods promise. Assumes nothing.
+-- `results::crossing::as_length` meets its contract: each field is what the answer's own methods promise. Assumes nothing.
 use mathlib.Core.Path.{_∙_, ap}
 use borrow.Author.Needs.{needs}
 use Rattle.scalar.specs.Refusals.{number, carried}
-use Rattle.results.proofs.core.as_length.Statement.{statement}
-use Rattle.results.proofs.core.as_length.Tie as tie
+use Rattle.results.proofs.crossing.as_length.Statement.{statement}
+use Rattle.results.proofs.crossing.as_length.Tie as tie
 
 refusal-requires : tie.Need-refusal-requires
 refusal-requires c κs = search needs

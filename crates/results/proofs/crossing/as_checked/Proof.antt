@@ -1,9 +1,9 @@
--- `results::core::as_scalar` meets its contract: each field is what the answer's own methods promise. Assumes nothing.
+-- `results::crossing::as_checked` meets its contract: each field is what the answer's own methods promise. Assumes nothing.
 use mathlib.Core.Path.{_∙_, ap}
 use borrow.Author.Needs.{needs}
 use Rattle.scalar.specs.Refusals.{number, carried}
-use Rattle.results.proofs.core.as_scalar.Statement.{statement}
-use Rattle.results.proofs.core.as_scalar.Tie as tie
+use Rattle.results.proofs.crossing.as_checked.Statement.{statement}
+use Rattle.results.proofs.crossing.as_checked.Tie as tie
 
 refusal-requires : tie.Need-refusal-requires
 refusal-requires c κs = search needs
@@ -22,5 +22,5 @@ returns c =
       carried = (c .carried .ensures ∙ ap carried (c .before .before .refusal .ensures)) i;
     }
 
-pub as-scalar-spec : {M : Type 1} → statement M
-as-scalar-spec = tie.close (tie.spec refusal-requires number-requires carried-requires returns)
+pub as-checked-spec : {M : Type 1} → statement M
+as-checked-spec = tie.close (tie.spec refusal-requires number-requires carried-requires returns)
