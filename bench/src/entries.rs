@@ -1,7 +1,7 @@
 //! The scalar entries: ours, and the same answers of the Rust behind an extern "C" call that returns the same struct.
 use crate::{best, row};
 use becktrestle::ffi::{self, Count, Mapped, Verdict, YesNo};
-use std::hint::black_box;
+use std::{hint::black_box, slice};
 
 type Property = unsafe extern "C" fn(u32) -> YesNo;
 type Mapping = unsafe extern "C" fn(u32) -> Mapped;
@@ -135,9 +135,22 @@ fn timed<T>(
     rust: Option<unsafe extern "C" fn(u32) -> T>,
     rustc: Option<unsafe extern "C" fn(u32) -> T>,
 ) {
+    // SAFETY: every candidate takes any number.
+    timed_by(name, what, numbers, ours, rust, rustc, |candidate, n| _ = black_box(unsafe { candidate(n) }));
+}
+
+fn timed_by<C: Copy>(
+    name: &str,
+    what: &str,
+    numbers: &[u32],
+    ours: C,
+    rust: Option<C>,
+    rustc: Option<C>,
+    call: impl Fn(C, u32),
+) {
     let rust = rust.filter(|_| reference::rust::AT_HAND);
     let candidates: Vec<_> = [Some(ours), rust, rustc].into_iter().flatten().collect();
-    let mut times = best(numbers, &candidates).into_iter();
+    let mut times = best(numbers, &candidates, call).into_iter();
     let ours = times.next().expect("our time");
     let rust = rust.and_then(|_| times.next());
     row(name, what, ours, rust, times.next());
@@ -175,40 +188,35 @@ extern "C" fn rustc_len_utf16(n: u32) -> Count {
     counted(n, char::len_utf16)
 }
 
-extern "C" fn encode_utf8(n: u32) -> Count {
-    let mut out = [0; 4];
+/// The Rust's encoders behind the same kind of call; where the buffer is too short they panic, which aborts here.
+unsafe extern "C" fn rustc_encode_utf8(n: u32, out: *mut u8, length: usize) -> Count {
+    // SAFETY: the caller lends so many bytes.
+    let out = unsafe { slice::from_raw_parts_mut(out, length) };
+    counted(n, |c| c.encode_utf8(out).len())
+}
+
+unsafe extern "C" fn rustc_encode_utf16(n: u32, out: *mut u16, length: usize) -> Count {
+    // SAFETY: the caller lends so many units.
+    let out = unsafe { slice::from_raw_parts_mut(out, length) };
+    counted(n, |c| c.encode_utf16(out).len())
+}
+
+/// One call of an encoder, into a buffer that is long enough.
+fn encode<U: Copy + Default, const N: usize>(encoder: unsafe extern "C" fn(u32, *mut U, usize) -> Count, n: u32) {
+    let mut out = [U::default(); N];
     // SAFETY: the pointer and the length are those of the buffer.
-    let count = unsafe { ffi::becktrestle_encode_utf8(n, out.as_mut_ptr(), out.len()) };
+    black_box(unsafe { encoder(n, out.as_mut_ptr(), N) });
     black_box(out);
-    count
 }
 
-extern "C" fn rustc_encode_utf8(n: u32) -> Count {
-    let mut out = [0; 4];
-    let count = counted(n, |c| c.encode_utf8(&mut out).len());
-    black_box(out);
-    count
-}
-
-extern "C" fn encode_utf16(n: u32) -> Count {
-    let mut out = [0; 2];
-    // SAFETY: the pointer and the length are those of the buffer.
-    let count = unsafe { ffi::becktrestle_encode_utf16(n, out.as_mut_ptr(), out.len()) };
-    black_box(out);
-    count
-}
-
-extern "C" fn rustc_encode_utf16(n: u32) -> Count {
-    let mut out = [0; 2];
-    let count = counted(n, |c| c.encode_utf16(&mut out).len());
-    black_box(out);
-    count
-}
-
-/// Lengths and encoders, each into a buffer of its own that is long enough.
+/// Lengths and encoders.
 pub fn encodings(what: &str, numbers: &[u32]) {
+    type Utf8 = unsafe extern "C" fn(u32, *mut u8, usize) -> Count;
+    type Utf16 = unsafe extern "C" fn(u32, *mut u16, usize) -> Count;
     timed("len_utf8", what, numbers, ffi::becktrestle_len_utf8, None, Some(rustc_len_utf8));
     timed("len_utf16", what, numbers, ffi::becktrestle_len_utf16, None, Some(rustc_len_utf16));
-    timed("encode_utf8", what, numbers, encode_utf8, None, Some(rustc_encode_utf8));
-    timed("encode_utf16", what, numbers, encode_utf16, None, Some(rustc_encode_utf16));
+    let (ours, rustc): (Utf8, Utf8) = (ffi::becktrestle_encode_utf8, rustc_encode_utf8);
+    timed_by("encode_utf8", what, numbers, ours, None, Some(rustc), encode::<u8, 4>);
+    let (ours, rustc): (Utf16, Utf16) = (ffi::becktrestle_encode_utf16, rustc_encode_utf16);
+    timed_by("encode_utf16", what, numbers, ours, None, Some(rustc), encode::<u16, 2>);
 }

@@ -9,8 +9,8 @@ use std::{hint::black_box, time::Instant};
 
 const ROUNDS: usize = 9;
 
-/// The best time of one call, in ns, of each candidate over all numbers; candidates take turns.
-fn best<T>(numbers: &[u32], candidates: &[unsafe extern "C" fn(u32) -> T]) -> Vec<f64> {
+/// The best time of one call, in ns, of each candidate over all numbers; candidates take turns. `call` makes the one call.
+fn best<C: Copy>(numbers: &[u32], candidates: &[C], call: impl Fn(C, u32)) -> Vec<f64> {
     let mut best = vec![f64::INFINITY; candidates.len()];
     // Short texts are repeated, so that the clock's own cost does not count.
     let turns = (1 << 20) / numbers.len().max(1) + 1;
@@ -19,8 +19,7 @@ fn best<T>(numbers: &[u32], candidates: &[unsafe extern "C" fn(u32) -> T]) -> Ve
             let begin = Instant::now();
             for _ in 0..turns {
                 for &n in numbers {
-                    // SAFETY: every candidate takes any number.
-                    black_box(unsafe { black_box(candidate)(n) });
+                    call(*black_box(candidate), n);
                 }
             }
             let ns = begin.elapsed().as_nanos() as f64 / (turns * numbers.len()) as f64;
