@@ -1,4 +1,4 @@
--- What the default of a `match` over fours of rows or over pages knows: the number is none of the arms'. And the row among the four
+-- What the default of a `match` over fours of rows, over pages or over multi rows knows: the number is none of the arms'. And the row among the four
 -- that hold it. Assumes nothing.
 use Prim.Native.Nat.{ℕ, zero, suc, _+_, _*_, _/_, _%_, _<_, _≤_}
 use mathlib.Core.Path.{_≡_, sym, refl, ap}
@@ -12,7 +12,9 @@ use Rattle.sets.proofs.Arms.{NoneBelow, none-below}
 use Rattle.casing.specs.declared.core.Four.{Four}
 use Rattle.casing.specs.declared.core.Page.{Page}
 use Rattle.casing.specs.declared.core.Page.the-variants as page
+use Rattle.casing.specs.declared.Mapping.{Mapping}
 use Rattle.casing.specs.Reading.{fourAt, pageOf}
+use Rattle.casing.specs.Rows.{zip, firstRow, multiple}
 
 beyond : (l : List ℕ) (i : ℕ) → length l ≤ i → 0 ≡ getD l i 0
 beyond [] i h = refl
@@ -55,3 +57,22 @@ unlisted known (p ∷ (a ∷ (b ∷ l))) x h = let u = unlisted (known × (x ≡
 
 pub no-page : (l : List ℕ) (x : ℕ) → Unlisted Unit l x → page.Empty ≡ pageOf l x
 no-page l x h = unlisted Unit l x h .1
+
+-- what the default of the multi rows knows, over what is known already: x is none of their numbers
+unfoldable pub Unmapped : Type 0 → List ℕ → ℕ → Type 0
+Unmapped known [] x = known
+Unmapped known (m ∷ ms) x = Unmapped (known × (x ≡ m → ⊥)) ms x
+
+unmapped : (known : Type 0) (ms fs ss ts : List ℕ) (plane x : ℕ) → Unmapped known ms x
+    → known × ((other : Mapping) → other ≡ multiple (zip ms fs ss ts) plane x other)
+unfolding Unmapped multiple firstRow zip
+unmapped known [] fs ss ts plane x h = (h, λ other. refl)
+unmapped known (m ∷ ms) [] ss ts plane x h = (unmapped (known × (x ≡ m → ⊥)) ms [] [] [] plane x h .0 .0, λ other. refl)
+unmapped known (m ∷ ms) (f ∷ fs) [] ts plane x h = (unmapped (known × (x ≡ m → ⊥)) ms [] [] [] plane x h .0 .0, λ other. refl)
+unmapped known (m ∷ ms) (f ∷ fs) (s ∷ ss) [] plane x h = (unmapped (known × (x ≡ m → ⊥)) ms [] [] [] plane x h .0 .0, λ other. refl)
+unmapped known (m ∷ ms) (f ∷ fs) (s ∷ ss) (t ∷ ts) plane x h =
+    let u = unmapped (known × (x ≡ m → ⊥)) ms fs ss ts plane x h in
+    (u .0 .0, λ other. rw (ne-eqb m x (λ e. u .0 .1 (sym e))) (u .1 other))
+
+pub no-multi : (ms fs ss ts : List ℕ) (plane x : ℕ) → Unmapped Unit ms x → (other : Mapping) → other ≡ multiple (zip ms fs ss ts) plane x other
+no-multi ms fs ss ts plane x h = unmapped Unit ms fs ss ts plane x h .1

@@ -1,5 +1,6 @@
 pub mod Answers
 pub mod Sorted
+pub mod Halving
 pub mod Reader
 pub mod Pages
 pub mod Arms

@@ -169,9 +169,6 @@ module _ (rows : Rows) (pages : List ℕ) (test : readable rows pages ≡ true) 
   pub page-rows : (p a b : ℕ) → page.Rows a b ≡ pageOf pages p → (apart 0 (rows .ends) (rows .ends) ≡ true) × ((a ≤ b) × (b ≤ length (rows .ends)))
   page-rows p a b e = (parts .rise, page-fits (length (rows .ends)) p a b pages (parts .inside) e)
 
-  pub multis-tidy : tidyMultis (rows .multi) (rows .first) (rows .second) (rows .third) ≡ true
-  multis-tidy = parts .tidy-multis
-
   module _ (plane x : ℕ) where
     held : (j : ℕ) → j < length (rows .starts) → between (getD (rows .starts) j 0) (getD (rows .ends) j 0) x ≡ true
         → among (pageOf pages (x / 256)) j ≡ true

@@ -1,21 +1,20 @@
 -- The row that halving finds decides what the rows say: no other row holds the number, so it is the first that fits, or
 -- none does. Assumes nothing.
 use Prim.Native.Nat.{ℕ, zero, suc, _<_, _≤_, _%_}
-use mathlib.Core.Path.{_≡_, _∙_, sym, refl, ap}
-use mathlib.Core.Bool.{Bool, true, false, cond, not, _&&_, _||_}
+use mathlib.Core.Path.{_≡_, _∙_, refl, ap}
+use mathlib.Core.Bool.{Bool, true, false, cond, _&&_}
 use mathlib.Core.List.{List, [], _∷_}
 use mathlib.Core.Logic.{⊎-elim}
 use native.Mathlib.Omega.{arith}
-use borrow.Author.Tests.{eqb-true, eq-eqb, ne-eqb, le-leb}
+use borrow.Author.Tests.{eqb-true, ne-eqb, le-leb}
 use lib.Dec.{eqb, leb}
 use lib.ListN.{length, getD}
 use Rattle.scalar.specs.Scalars.{between}
 use Rattle.sets.proofs.Decide.{same, and-left, and-right, and-not-left}
 use Rattle.casing.specs.declared.Mapping.{Mapping}
 use Rattle.casing.specs.Answers.{answer}
-use Rattle.casing.specs.Reading.{Halved}
 use Rattle.casing.specs.Rows.{Row, zip, firstRow, covers, moved, inPlane, inPlaneOr0, single, multiple, apart, tidySingles, tidyMultis}
-use Rattle.casing.proofs.Sorted.{Only, apart-length, only}
+use Rattle.casing.proofs.Sorted.{Only, apart-length}
 
 -- past a list's end
 abbrev pub empty : Row
@@ -125,21 +124,7 @@ alone k x h = ne-eqb k x (λ e. let z : between k k x ≡ true = rw (le-leb k x 
     let f : _≡_ {A = ℕ} 0 1 = cc in omega arith)
 
 module _ (multi first second third : List ℕ) (plane x : ℕ) (other : Mapping) (t : tidyMultis multi first second third ≡ true) where
-  -- halving all of them
-  pub multi-only : (r : ℕ) → Halved multi 0 (length multi) x r → Only multi multi x r
-  multi-only r h =
-      only multi multi x (multis-parts multi first second third t .0) 0 (length multi) (omega arith) (λ j k e. (omega arith, k)) r h
-
   module _ (r : ℕ) (o : Only multi multi x r) where
-    pub multi-found : r < length multi → getD multi r 0 ≡ x
-        → multiple (zip multi first second third) plane x other
-        ≡ answer (inPlane plane (getD first r 0)) (inPlaneOr0 plane (getD second r 0)) (inPlaneOr0 plane (getD third r 0))
-    unfolding multiple
-    multi-found l hit =
-        found multi first second third (multis-parts multi first second third t .1) (λ q. eqb (q .0) x)
-        (λ q. answer (inPlane plane (q .1)) (inPlaneOr0 plane (q .2)) (inPlaneOr0 plane (q .3))) other r
-        (λ j k ne. alone (getD multi j 0) x (o .others j k ne)) l (eq-eqb (getD multi r 0) x hit)
-
     pub multi-missed : (r < length multi → getD multi r 0 ≡ x → ⊥) → multiple (zip multi first second third) plane x other ≡ other
     unfolding multiple
     multi-missed not-it =

@@ -1,12 +1,12 @@
 // Reading a plane's rows. The page of a number, 256 numbers each, says which single rows can hold it, halving finds the one that
-// does, and its word says where the number goes. So nothing is lent for a page without rows, and the multi rows are lent only
-// where no single row covers the number: an array that is lent is built anew at each call.
+// does, and its word says where the number goes. An array that is lent is built anew at each call: so only short ones are lent
+// here, and all other rows stand behind the `match` of their table.
 ghost use mathlib.Core.Path.{_≡_};
 ghost use mathlib.Core.Bool.{true};
 ghost use Prim.Native.Nat.{ℕ, _<_, _≤_, _%_};
 ghost use lib.ListN.{length};
-ghost use Rattle.casing.specs.Rows.{zip, covers, moved, inPlane, inPlaneOr0, multiple, apart, tidyMultis};
-ghost use Rattle.casing.specs.Reading.{Says, unpacked, rowSays, RowOf, Halved};
+ghost use Rattle.casing.specs.Rows.{covers, moved, inPlane, apart};
+ghost use Rattle.casing.specs.Reading.{unpacked, rowSays, RowOf, Halved};
 
 // Where the rows send a number: one to three numbers, unused ones 0.
 pub enum Found {
@@ -69,16 +69,6 @@ fn number_in(plane: u32, low: u16) -> u32
     plane * 0x10000 + low as u32
 }
 
-fn number_or_0(plane: u32, low: u16) -> u32
-    requires { ⌜ plane < 65536 ⌝ }
-    ensures { λ r. ⌜ r ≡ inPlaneOr0 plane low ⌝ }
-{
-    if low == 0 {
-        return 0;
-    }
-    number_in(plane, low)
-}
-
 // The delta wraps in the low 16 bits, and the plane stays.
 fn moved_by(plane: u32, x: u16, delta: u16) -> u32
     requires { ⌜ plane < 65536 ⌝ }
@@ -116,32 +106,6 @@ pub fn by_row(row: u64, plane: u32, low: u16) -> Found
     let after_step = after_end / 0x10000;
     if row_covers(lowest(row), lowest(after_start), lowest(after_end), low) {
         return Found::To(moved_by(plane, low, lowest(after_step)), 0, 0);
-    }
-    Found::Nothing
-}
-
-// Where a plane's multi rows send the number with these low 16 bits.
-pub fn multi_row(
-    multi: &[u16],
-    first: &[u16],
-    second: &[u16],
-    third: &[u16],
-    plane: u32,
-    low: u16,
-) -> Found
-    requires { ⌜ plane < 65536 ⌝ }
-    requires { ⌜ tidyMultis (now multi) (now first) (now second) (now third) ≡ true ⌝ }
-    ensures { λ r. ⌜ Says r (multiple (zip (now (multi .entry)) (now (first .entry)) (now (second .entry)) (now (third .entry))) plane low) ⌝ }
-{
-    let i = row_at(multi, 0, multi.len(), low);
-    if i < multi.len() {
-        if multi[i] == low {
-            return Found::To(
-                number_in(plane, first[i]),
-                number_or_0(plane, second[i]),
-                number_or_0(plane, third[i]),
-            );
-        }
     }
     Found::Nothing
 }

@@ -4,26 +4,13 @@ ghost use mathlib.Core.Bool.{true};
 ghost use Rattle.casing.specs.Answers.{isScalar};
 ghost use Rattle.casing.specs.Listed.{rowOf};
 ghost use Rattle.casing.specs.Reading.{Says};
-ghost use Rattle.casing.specs.Rows.{multiple, multis, looked, fromFloor};
+ghost use Rattle.casing.specs.Rows.{looked, fromFloor};
 ghost use Rattle.casing_title.specs.Planes as planes;
 ghost use Rattle.casing_title.specs.Unicode.{rows};
 use crate::table;
 use casing::Mapping;
 use casing::core::Found;
 use casing::core::Page;
-
-fn multi0(low: u16) -> Found
-    ensures { λ r. ⌜ Says r (multiple (multis planes.plane0) 0 low) ⌝ }
-{
-    casing::core::multi_row(
-        &table::MULTI0,
-        &table::MULTI0_FIRST,
-        &table::MULTI0_SECOND,
-        &table::MULTI0_THIRD,
-        0,
-        low,
-    )
-}
 
 fn plane0(low: u16) -> Found
     ensures { λ r. ⌜ Says r (looked planes.plane0 0 low) ⌝ }
@@ -33,11 +20,11 @@ fn plane0(low: u16) -> Found
     };
     let i = casing::core::row_at(&table::ENDS0, first, last, low);
     if i == last {
-        return multi0(low);
+        return table::multi0(low);
     }
     let row = casing::core::row_of(table::rows0(i / 4), i);
     let Found::To(a, b, c) = casing::core::by_row(row, 0, low) else {
-        return multi0(low);
+        return table::multi0(low);
     };
     Found::To(a, b, c)
 }

@@ -1,9 +1,10 @@
 // Generated from library/core/src/unicode/unicode_data.rs of Rust 1.97.0 by `oracle/make`; do not edit.
 ghost use mathlib.Core.Path.{_≡_};
-ghost use Rattle.casing.specs.Reading.{packed, fourAt, pageOf};
-ghost use Rattle.casing.specs.Rows.{singles};
+ghost use Rattle.casing.specs.Reading.{Says, packed, fourAt, pageOf};
+ghost use Rattle.casing.specs.Rows.{singles, multis, multiple};
 ghost use Rattle.casing_title.specs.Planes as planes;
 ghost use Rattle.casing_title.specs.Table as lists;
+use casing::core::Found;
 use casing::core::Four;
 use casing::core::Page;
 
@@ -37,113 +38,37 @@ pub const ENDS0: [u16; 26] = [
     0x1FFC,
 ];
 
-// plane 0, multi rows: the number mapped
-pub const MULTI0: [u16; 23] = [
-    0x00DF,
-    0x0587,
-    0x1FB2,
-    0x1FB4,
-    0x1FB7,
-    0x1FC2,
-    0x1FC4,
-    0x1FC7,
-    0x1FF2,
-    0x1FF4,
-    0x1FF7,
-    0xFB00,
-    0xFB01,
-    0xFB02,
-    0xFB03,
-    0xFB04,
-    0xFB05,
-    0xFB06,
-    0xFB13,
-    0xFB14,
-    0xFB15,
-    0xFB16,
-    0xFB17,
-];
-
-// plane 0, multi rows: the first number of the answer
-pub const MULTI0_FIRST: [u16; 23] = [
-    0x0053,
-    0x0535,
-    0x1FBA,
-    0x0386,
-    0x0391,
-    0x1FCA,
-    0x0389,
-    0x0397,
-    0x1FFA,
-    0x038F,
-    0x03A9,
-    0x0046,
-    0x0046,
-    0x0046,
-    0x0046,
-    0x0046,
-    0x0053,
-    0x0053,
-    0x0544,
-    0x0544,
-    0x0544,
-    0x054E,
-    0x0544,
-];
-
-// plane 0, multi rows: the second number of the answer
-pub const MULTI0_SECOND: [u16; 23] = [
-    0x0073,
-    0x0582,
-    0x0345,
-    0x0345,
-    0x0342,
-    0x0345,
-    0x0345,
-    0x0342,
-    0x0345,
-    0x0345,
-    0x0342,
-    0x0066,
-    0x0069,
-    0x006C,
-    0x0066,
-    0x0066,
-    0x0074,
-    0x0074,
-    0x0576,
-    0x0565,
-    0x056B,
-    0x0576,
-    0x056D,
-];
-
-// plane 0, multi rows: the third number of the answer, or 0
-pub const MULTI0_THIRD: [u16; 23] = [
-    0x0000,
-    0x0000,
-    0x0000,
-    0x0000,
-    0x0345,
-    0x0000,
-    0x0000,
-    0x0345,
-    0x0000,
-    0x0000,
-    0x0345,
-    0x0000,
-    0x0000,
-    0x0000,
-    0x0069,
-    0x006C,
-    0x0000,
-    0x0000,
-    0x0000,
-    0x0000,
-    0x0000,
-    0x0000,
-    0x0000,
-];
+// plane 0: the multi rows
+pub(crate) fn multi0(low: u16) -> Found
+    ensures { λ r. ⌜ Says r (multiple (multis planes.plane0) 0 low) ⌝ }
+{
+    match low {
+        0x00DF => Found::To(0x0053, 0x0073, 0x0000),
+        0x0587 => Found::To(0x0535, 0x0582, 0x0000),
+        0x1FB2 => Found::To(0x1FBA, 0x0345, 0x0000),
+        0x1FB4 => Found::To(0x0386, 0x0345, 0x0000),
+        0x1FB7 => Found::To(0x0391, 0x0342, 0x0345),
+        0x1FC2 => Found::To(0x1FCA, 0x0345, 0x0000),
+        0x1FC4 => Found::To(0x0389, 0x0345, 0x0000),
+        0x1FC7 => Found::To(0x0397, 0x0342, 0x0345),
+        0x1FF2 => Found::To(0x1FFA, 0x0345, 0x0000),
+        0x1FF4 => Found::To(0x038F, 0x0345, 0x0000),
+        0x1FF7 => Found::To(0x03A9, 0x0342, 0x0345),
+        0xFB00 => Found::To(0x0046, 0x0066, 0x0000),
+        0xFB01 => Found::To(0x0046, 0x0069, 0x0000),
+        0xFB02 => Found::To(0x0046, 0x006C, 0x0000),
+        0xFB03 => Found::To(0x0046, 0x0066, 0x0069),
+        0xFB04 => Found::To(0x0046, 0x0066, 0x006C),
+        0xFB05 => Found::To(0x0053, 0x0074, 0x0000),
+        0xFB06 => Found::To(0x0053, 0x0074, 0x0000),
+        0xFB13 => Found::To(0x0544, 0x0576, 0x0000),
+        0xFB14 => Found::To(0x0544, 0x0565, 0x0000),
+        0xFB15 => Found::To(0x0544, 0x056B, 0x0000),
+        0xFB16 => Found::To(0x054E, 0x0576, 0x0000),
+        0xFB17 => Found::To(0x0544, 0x056D, 0x0000),
+        _ => Found::Nothing,
+    }
+}
 
 // plane 0: four rows to an arm, a row in a word, 16 bits each: delta, step, last number, first number
 pub(crate) fn rows0(i: usize) -> Four
@@ -216,6 +141,6 @@ pub(crate) fn page0(page: u16) -> Page
     }
 }
 
-// plane 1 has no rows: their arrays would be empty and are left out
+// plane 1 has no rows
 
-// plane 1 has no multi rows: their arrays would be empty and are left out
+// plane 1 has no multi rows

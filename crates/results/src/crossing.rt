@@ -109,7 +109,8 @@ pub fn as_mapped(m: Mapping) -> Mapped
     ensures { λ r. ⌜ r ≡ mappedOf m ⌝ }
 {
     let r = m.refusal;
-    let to = m.to;
+    // One by one: read as a whole, they would wait for the three single writes just made.
+    let to = [m.to[0], m.to[1], m.to[2]];
     Mapped {
         refusal: r.number(),
         count: m.count,

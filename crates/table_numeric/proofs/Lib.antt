@@ -1,3 +1,4 @@
 pub mod Right
 pub mod Whole
 pub mod Packed
+pub mod Marked

@@ -16,6 +16,9 @@ pub enum Arm {
     Mapped(u8, u64),
 }
 
+/// Where a function stands: its crate, and the file there.
+pub type Place<'a> = (&'a str, &'a str);
+
 /// The definitions that a proof opens: a module, and its names, with spaces between.
 pub type Opened = (String, &'static str);
 
@@ -55,18 +58,27 @@ pub fn ensures(fact: &str) -> String {
     format!("ensures {{ λ r. ⌜ {fact} ⌝ }}")
 }
 
-/// The proof of such a function of a crate's table.rt, and its path: what it meets, what it cites, what it opens, an answer for
+/// The proof of such a function of a crate's file, and its path: what it meets, what it cites, what it opens, an answer for
 /// each need.
-pub fn proof(source: &str, krate: &str, name: &str, says: &str, cites: &str, opens: &str, answers: &str) -> File {
-    let own = format!("Rattle.{krate}.proofs.table.{name}");
+pub fn proof(
+    source: &str,
+    place: Place,
+    name: &str,
+    says: &str,
+    cites: &str,
+    opens: &str,
+    answers: &str,
+) -> File {
+    let (krate, file) = place;
+    let own = format!("Rattle.{krate}.proofs.{file}.{name}");
     let spec = name.replace('_', "-") + "-spec";
     let text = format!(
         "-- Generated from {source} by `oracle/make`; do not edit.\n\
-        -- `{krate}::table::{name}` meets its contract: {says}. Assumes nothing.\n\
+        -- `{krate}::{file}::{name}` meets its contract: {says}. Assumes nothing.\n\
         {cites}use {own}.Statement.{{statement}}\nuse {own}.Tie as tie\n\n\
         pub {spec} : {{M : Type 1}} → statement M\nunfolding {opens}\n{spec} =\n    tie.close\n    (tie.spec\n{answers}"
     );
-    (format!("crates/{krate}/proofs/table/{name}/Proof.antt"), text)
+    (format!("crates/{krate}/proofs/{file}/{name}/Proof.antt"), text)
 }
 
 /// The constant that the last arms name.
@@ -97,7 +109,7 @@ impl Accessor {
     }
 
     /// Each arm answers what its index does. The prover asks first what `mapped` requires at each call, which is nothing.
-    pub fn proof(&self, source: &str, krate: &str) -> File {
+    pub fn proof(&self, source: &str, place: Place) -> File {
         let Accessor { name, answers, .. } = self;
         let pairs = self.arms.iter().filter(|arm| matches!(arm, Arm::Mapped(..))).count();
         let mut answered = "    (λ c κs. tt)\n".repeat(pairs);
@@ -115,10 +127,8 @@ impl Accessor {
                 }
             };
         }
-        answered += &format!(
-            "    (λ c. absurd (omega (arith, none-below {} (c .match .rest)))))\n",
-            self.arms.len()
-        );
+        answered +=
+            &format!("    (λ c. absurd (omega (arith, none-below {} (c .match .rest)))))\n", self.arms.len());
         let of_calls = if pairs > 0 { "use mathlib.Core.Path.{_∙_}\n" } else { "" };
         let uses = |(module, names): &Opened| format!("use {module}.{{{}}}\n", names.replace(' ', ", "));
         let opened: String = self.opened.iter().map(uses).collect();
@@ -128,7 +138,7 @@ impl Accessor {
         );
         let unfolded: Vec<&str> = self.opened.iter().map(|&(_, names)| names).collect();
         let opens = unfolded.join(" ") + " NoneBelow";
-        proof(source, krate, name, "an arm for each index", &cites, &opens, &answered)
+        proof(source, place, name, "an arm for each index", &cites, &opens, &answered)
     }
 }
 

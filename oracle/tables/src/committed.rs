@@ -128,6 +128,17 @@ fn skip(table: &Crate) -> (Vec<u64>, Ranges) {
     ([headers, offsets].concat(), flat)
 }
 
+/// The marks in the code are those of specs/, and of the buckets that the answers reach into.
+fn marks(root: &Path, data: &Data, property: &str) -> bool {
+    let folder = root.join("crates").join(format!("table_{property}"));
+    let text = |file: &str| fs::read_to_string(folder.join(file)).expect(file);
+    let listed = list(&text("specs/Marks.antt"), "marks");
+    let code = arms::answers(&text("src/marks.rt"), "marks_at").concat();
+    let reached = crate::bitset::marks(&data.property(property).without_ascii());
+    compare::list(&format!("table_{property}, marks, code against specs"), code, &listed)
+        & compare::list(&format!("table_{property}, marks against data"), listed, &reached)
+}
+
 fn bitset(table: &Crate) -> (Vec<u64>, Ranges) {
     let text = &table.table;
     let (_, length) = text.split_once(" CHUNK_MAP_LENGTH: usize = ").expect("the map's length");
@@ -181,26 +192,39 @@ fn printables(root: &Path, data: &Data) -> bool {
 
 fn planes(table: &Crate) -> rows::Planes {
     ["0", "1"].map(|plane| {
-        let constant = |name: &str| narrow(table.constant(&name.replace('#', plane)));
         let fours = arms::answers(&table.table, &format!("rows{plane}")).concat();
         let words: Vec<u64> = fours.into_iter().filter(|&word| word != 0).collect();
         let field = |low: u32| words.iter().map(|word| word >> low & 0xFFFF).collect::<Vec<u64>>();
+        let multis = arms::read(&table.table, &format!("multi{plane}"));
+        let of_multis = |at: usize| narrow(multis.iter().map(|row| row[at] & 0xFFFF).collect());
         rows::Plane {
             starts: narrow(field(0)),
             ends: narrow(field(16)),
             steps: narrow(field(32)),
             deltas: narrow(field(48)),
-            multi: constant("MULTI#"),
-            to: ["MULTI#_FIRST", "MULTI#_SECOND", "MULTI#_THIRD"].map(constant),
+            multi: of_multis(0),
+            to: [1, 2, 3].map(of_multis),
         }
     })
+}
+
+/// The ends that are halved are the lists of specs/: in an array, or behind a `match`.
+fn ends_same(table: &Crate) -> bool {
+    let ends = |plane: &str| {
+        let array = table.constant(&format!("ENDS{plane}"));
+        let arms = arms::answers(&table.table, &format!("end{plane}")).concat();
+        [array, arms].concat()
+    };
+    table.same_numbers(["0", "1"].iter().flat_map(|plane| ends(plane)).collect(), &of_planes("ENDS#"))
 }
 
 /// The rows' words and the pages are the lists of specs/.
 fn arms_same(table: &Crate, planes: &rows::Planes) -> bool {
     let numbers = |plane: &rows::Plane| {
         let steps = plane.steps.iter().map(|&step| step.into()).collect();
-        [plane.starts.clone(), plane.ends.clone(), steps, plane.deltas.clone()].concat()
+        let [first, second, third] = plane.to.clone();
+        let single = [plane.starts.clone(), plane.ends.clone(), steps, plane.deltas.clone()];
+        [single.concat(), plane.multi.clone(), first, second, third].concat()
     };
     let rows: Vec<u64> = planes.iter().flat_map(numbers).map(u64::from).collect();
     let listed: Vec<String> = ["0", "1"]
@@ -211,9 +235,10 @@ fn arms_same(table: &Crate, planes: &rows::Planes) -> bool {
     let pages: Vec<u64> =
         ["page0", "page1"].iter().flat_map(|name| arms::read(&table.table, name).concat()).collect();
     compare::list(
-        &format!("{}, words of rows against specs", table.name),
+        &format!("{}, rows against specs", table.name),
         rows,
-        &table.lists(&of_planes("STARTS# ENDS# STEPS# DELTAS#")),
+        &table
+            .lists(&of_planes("STARTS# ENDS# STEPS# DELTAS# MULTI# MULTI#_FIRST MULTI#_SECOND MULTI#_THIRD")),
     ) & compare::list(&format!("{}, pages against specs", table.name), pages, &table.lists(&listed))
 }
 
@@ -234,7 +259,7 @@ fn casing(root: &Path, data: &Data, name: &str) -> bool {
     let unicode: Rows = listed.chunks_exact(4).map(row).collect();
     let listed = |c: char| scalar(lists::mapped(&unicode, c as u32));
     // ASCII letters change by code and not by rows.
-    table.same(&of_planes("ENDS# MULTI# MULTI#_FIRST MULTI#_SECOND MULTI#_THIRD"))
+    ends_same(&table)
         & arms_same(&table, &own)
         & compare::mapping(&format!("{folder}, table decoded against data"), NON_ASCII, whole, decoded)
         & compare::mapping(&format!("{folder}, unicode against data"), ALL, whole, listed)
@@ -245,6 +270,7 @@ pub fn check(root: &Path, data: &Data) -> bool {
     for name in ["alphabetic", "numeric", "titlecase"] {
         pass &= property(root, data, name, "HEADERS OFFSETS", skip) & rust_headers(root, name);
     }
+    pass &= marks(root, data, "numeric");
     for name in ["lowercase", "uppercase"] {
         pass &= property(root, data, name, "CHUNK_MAP CHUNKS CANONICAL MAPPED_WORD MAPPING", bitset);
     }

@@ -20,6 +20,7 @@ fn all(inputs: &Inputs) -> Vec<File> {
     let mut all = Vec::new();
     all.extend(files::skip(inputs, "alphabetic", "alphabetic", "Alphabetic"));
     all.extend(files::skip(inputs, "numeric", "n", "N"));
+    all.extend(files::marks(inputs, "numeric", "n"));
     all.extend(files::skip(inputs, "titlecase", "lt", "Lt"));
     all.extend(files::bitset(inputs, "lowercase", "Lowercase"));
     all.extend(files::bitset(inputs, "uppercase", "Uppercase"));

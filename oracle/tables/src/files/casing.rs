@@ -37,23 +37,25 @@ fn assert_mapping(
     }
 }
 
+/// So many numbers at most are lent to a search as an array, which is built anew at each call; more stand behind a `match`.
+const LENT: usize = 32;
+
 /// Comment, name with # for the plane, whether it is an array too, form and numbers of each list. What
-/// is no array is read off the rows' words.
+/// is no array is behind a `match`.
 type Field = (&'static str, &'static str, bool, Form, Vec<u64>);
 
 fn fields(plane: &rows::Plane) -> [Field; 8] {
     let list = |says, name, numbers: &[u16]| (says, name, false, Form::Hex(4), wide(numbers));
-    let word = |says, name, numbers: &[u16]| (says, name, true, Form::Hex(4), wide(numbers));
     let parity = "rows: 2 where only numbers of the start's parity are covered, else 1";
     [
         list("rows: the first number of each", "STARTS#", &plane.starts),
-        word("rows: the last number of each", "ENDS#", &plane.ends),
+        ("rows: the last number of each", "ENDS#", plane.ends.len() <= LENT, Form::Hex(4), wide(&plane.ends)),
         (parity, "STEPS#", false, DECIMAL, wide(&plane.steps)),
         list("rows: what is added to the low 16 bits, wrapping", "DELTAS#", &plane.deltas),
-        word("multi rows: the number mapped", "MULTI#", &plane.multi),
-        word("multi rows: the first number of the answer", "MULTI#_FIRST", &plane.to[0]),
-        word("multi rows: the second number of the answer", "MULTI#_SECOND", &plane.to[1]),
-        word("multi rows: the third number of the answer, or 0", "MULTI#_THIRD", &plane.to[2]),
+        list("multi rows: the number mapped", "MULTI#", &plane.multi),
+        list("multi rows: the first number of the answer", "MULTI#_FIRST", &plane.to[0]),
+        list("multi rows: the second number of the answer", "MULTI#_SECOND", &plane.to[1]),
+        list("multi rows: the third number of the answer, or 0", "MULTI#_THIRD", &plane.to[2]),
     ]
 }
 
@@ -72,15 +74,14 @@ pub fn casing(inputs: &Inputs, name: &str, lut: &str, list: &str) -> Vec<File> {
 
     let krate = format!("casing_{name}");
     let mut consts = Consts::new(&of_rust(UNICODE_DATA));
-    accessors::uses(&mut consts, &krate);
+    let behind_match = |plane: &rows::Plane| plane.ends.len() > LENT;
+    accessors::uses(&mut consts, &krate, planes.iter().any(behind_match));
     let mut proofs = Vec::new();
     let mut specs = Lists::new(&of_rust(UNICODE_DATA));
     for (p, plane) in planes.iter().enumerate() {
         for (rows, left_out) in [(&plane.starts, "rows"), (&plane.multi, "multi rows")] {
             if rows.is_empty() {
-                consts.comment(&format!(
-                    "plane {p} has no {left_out}: their arrays would be empty and are left out"
-                ));
+                consts.comment(&format!("plane {p} has no {left_out}"));
             }
         }
         for (says, constant, array, form, numbers) in fields(plane) {
@@ -90,6 +91,12 @@ pub fn casing(inputs: &Inputs, name: &str, lut: &str, list: &str) -> Vec<File> {
                 consts.add(&says, &constant, "u16", form, &numbers);
             }
             specs.add(&says, &camel(&constant), form, 1, &numbers);
+        }
+        if behind_match(plane) {
+            proofs.push(accessors::ends(&mut consts, &krate, p, plane));
+        }
+        if !plane.multi.is_empty() {
+            proofs.push(accessors::multis(&mut consts, &krate, p, plane));
         }
         if !plane.starts.is_empty() {
             proofs.push(accessors::rows(&mut consts, &krate, p, plane));

@@ -7,7 +7,7 @@ mod sets;
 
 pub use casing::casing;
 pub use printable::printable;
-pub use sets::{bitset, skip, small};
+pub use sets::{bitset, marks, skip, small};
 
 use crate::layout::{Form, Lists, POINT};
 use reference::ranges::Ranges;

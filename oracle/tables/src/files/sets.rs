@@ -2,8 +2,9 @@
 
 use super::{list_of_ranges, of_rust, of_unicode, File, Inputs, DECIMAL, UNICODE_DATA};
 use crate::arms::{self, Accessor, Arm};
+use crate::bitset::{self, Bitset};
 use crate::layout::{wide, Consts, Form, Lists};
-use crate::{bitset::Bitset, skip::Skip, source};
+use crate::{skip::Skip, source};
 use reference::counts::{counts, Counts};
 use reference::{lists, ranges::Ranges, scalars};
 
@@ -67,6 +68,41 @@ pub fn skip(inputs: &Inputs, property: &str, module: &str, comment: &str) -> Vec
     files
 }
 
+/// The marks of a property that few characters have: they keep most numbers away from its skip table.
+pub fn marks(inputs: &Inputs, property: &str, module: &str) -> Vec<File> {
+    let flat = Skip::read(source::module(&inputs.source(UNICODE_DATA), module)).flat();
+    let words = bitset::marks(&flat);
+    let says = "whether a bucket of 64 numbers holds one at all, 64 buckets to a word, the lowest first";
+    let mut specs = Lists::new(&of_rust(UNICODE_DATA));
+    specs.add(says, "marks", Form::Hex(16), 1, &words);
+    let folder = format!("table_{property}");
+    let lists = format!("Rattle.{folder}.specs.Marks");
+    let accessor = Accessor {
+        says,
+        name: "marks_at",
+        index: "k",
+        requires: "k < length marks",
+        answers: "marksAt marks",
+        opened: vec![("Rattle.bitset.specs.Marks".to_string(), "marksAt"), (lists.clone(), "marks")],
+        arms: words.iter().copied().map(Arm::Number).collect(),
+    };
+    let mut code = Consts::new(&of_rust(UNICODE_DATA));
+    code.line("ghost use mathlib.Core.Path.{_≡_};");
+    code.line("ghost use Prim.Native.Nat.{_<_};");
+    code.line("ghost use lib.ListN.{length};");
+    code.line("ghost use Rattle.bitset.specs.Marks.{marksAt};");
+    code.line(&format!("ghost use {lists}.{{marks}};"));
+    code.comment("how many words there are");
+    code.line(&format!("pub(crate) const MARKS_LENGTH: usize = {};", words.len()));
+    code.text_of(&arms::unreached());
+    code.text_of(&accessor.code());
+    vec![
+        (format!("crates/{folder}/src/marks.rt"), code.text()),
+        (format!("crates/{folder}/specs/Marks.antt"), specs.text()),
+        accessor.proof(&of_rust(UNICODE_DATA), (&folder, "marks")),
+    ]
+}
+
 pub fn bitset(inputs: &Inputs, property: &str, comment: &str) -> Vec<File> {
     let text = inputs.source(UNICODE_DATA);
     let table = Bitset::read(source::module(&text, property));
@@ -93,7 +129,7 @@ pub fn bitset(inputs: &Inputs, property: &str, comment: &str) -> Vec<File> {
         (format!("crates/{folder}/src/table.rt"), bitset_code(&table, &folder, &accessors)),
         (format!("crates/{folder}/specs/Table.antt"), specs.text()),
     ];
-    files.extend(accessors.iter().map(|accessor| accessor.proof(&of_rust(UNICODE_DATA), &folder)));
+    files.extend(accessors.iter().map(|accessor| accessor.proof(&of_rust(UNICODE_DATA), (&folder, "table"))));
     files.extend(flat_and_unicode(&format!("crates/{folder}"), property, &list, &flat, &unicode));
     files
 }

@@ -1,28 +1,22 @@
--- `casing::core::row_at` meets its contract. The invariant: every row from first to before lo ends below x, and the row at hi does not;
--- a turn moves one of them to the middle. The measure is what lies between them. Assumes nothing.
-use Prim.Native.Nat.{ℕ, _≤_, _<_, _-_, _+_, _/_}
-use mathlib.Core.Path.{_≡_}
-use mathlib.Core.Logic.{⊎-elim}
-use native.Mathlib.Nat.{eq-or-lt-of-le}
-use lib.ListN.{length, getD}
-use Rattle.casing.proofs.Sorted.{ends-rise}
+-- `casing::core::row_at` meets its contract, by the laws of halving; the measure is what lies between lo and hi. Assumes nothing.
+use Prim.Native.Nat.{_-_, _+_, _/_}
 use native.Mathlib.Omega.{arith}
 use borrow.Author.Needs.{needs}
+use Rattle.casing.proofs.Halving.{Halving, begin, move-lo, move-hi, met}
 use Rattle.casing.proofs.core.row_at.Statement.{statement}
 use Rattle.casing.proofs.core.row_at.Tie as tie
 
 abbrev Inv-loop : tie.InvT-loop
-Inv-loop ends first last x lo₀ hi₀ lo hi =
-    ((first ≤ lo) × (lo ≤ hi) × (hi ≤ last)) × ((j : ℕ) → first ≤ j → j < lo → getD ends j 0 < x) × (hi < last → x ≤ getD ends hi 0)
+Inv-loop ends first last x lo₀ hi₀ lo hi = Halving ends first last x lo hi
 
 abbrev μ-loop : tie.MeasureT-loop
 μ-loop ends first last x lo₀ hi₀ lo hi = hi - lo
 
 loop-holds : tie.Need-loop-holds Inv-loop μ-loop
-loop-holds c = ((omega arith, omega arith, omega arith), (λ j k l. absurd (omega arith)), (λ l. absurd (omega arith)))
+loop-holds c = begin (c .args .ends .now) (c .args .first) (c .args .last) (c .args .x) (search needs)
 
 sub-mid : tie.Need-sub-mid Inv-loop μ-loop
-sub-mid c = search needs
+sub-mid c = omega (arith, c .before .loop .inv .order)
 
 add-mid : tie.Need-add-mid Inv-loop μ-loop
 add-mid c = search needs
@@ -41,30 +35,21 @@ loop-less c = search needs
 
 loop-again : tie.Need-loop-again Inv-loop μ-loop
 loop-again c =
+    let turn = c .before .before .before .loop in
     let start = c .before .before .before .before in
-    let es = start .args .ends .now in
-    let lo = c .before .before .before .loop .lo in
-    let hi = c .before .before .before .loop .hi in
-    let m = lo + (hi - lo) / 2 in (
-      (omega arith, omega arith, omega arith),
-      (λ j k l.
-          ⊎-elim
-          (λ e. rw e (c .if1 .taken))
-          (λ o. omega (arith, ends-rise es es 0 (start .pre .0) j m o (omega arith), c .if1 .taken))
-          (eq-or-lt-of-le {n = j} {m = m} (omega arith))),
-      c .before .before .before .loop .inv .2,
-    )
+    move-lo (start .args .ends .now) _ _ _ _ _ (turn .inv) (start .pre .0) (start .pre .1 .1) (turn .lo + (turn .hi - turn .lo) / 2) (omega arith) (omega arith) (c .if1 .taken)
 
 loop-less-2 : tie.Need-loop-less-2 Inv-loop μ-loop
 loop-less-2 c = search needs
 
 loop-again-2 : tie.Need-loop-again-2 Inv-loop μ-loop
-loop-again-2 c = ((omega arith, omega arith, omega arith), c .before .before .before .loop .inv .1, λ l. c .if1 .left)
+loop-again-2 c =
+    let turn = c .before .before .before .loop in
+    let start = c .before .before .before .before in
+    move-hi (start .args .ends .now) _ _ _ _ _ (turn .inv) (turn .lo + (turn .hi - turn .lo) / 2) (omega arith) (omega arith) (c .if1 .left)
 
 returns : tie.Need-returns Inv-loop μ-loop
-returns c =
-    let e : c .before .loop .lo ≡ c .before .loop .hi = omega arith in
-    record { from = omega arith; upto = omega arith; below = c .before .loop .inv .1; reached = rw e (c .before .loop .inv .2) }
+returns c = met _ _ _ _ _ _ (c .before .loop .inv) (c .loop-test .left)
 
 pub row-at-spec : {M : Type 1} → statement M
 row-at-spec =

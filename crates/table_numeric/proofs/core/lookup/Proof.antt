@@ -1,25 +1,24 @@
--- `table_numeric::core::lookup` meets its contract: the constants that it lends are the table's lists. Assumes nothing.
-use mathlib.Core.Path.{_∙_}
+-- `table_numeric::core::lookup` meets its contract: no range reaches into an unmarked bucket. Assumes nothing.
+use mathlib.Core.Path.{_∙_, sym}
 use borrow.Author.Needs.{needs}
-use Rattle.table_numeric.specs.Table.{headers, offsets}
-use Rattle.table_numeric.proofs.Right.{table-keeps, table-right}
+use Rattle.bitset.proofs.Marks.{unmarked}
+use Rattle.table_numeric.specs.Flat.{flat}
+use Rattle.table_numeric.specs.Marks.{marks}
+use Rattle.table_numeric.proofs.Marked.{all-marked}
 use Rattle.table_numeric.proofs.core.lookup.Statement.{statement}
 use Rattle.table_numeric.proofs.core.lookup.Tie as tie
 
-slice-aggregate-skip-search : tie.Need-slice-aggregate-skip-search
-slice-aggregate-skip-search c = search needs
+bucket-marked-requires : tie.Need-bucket-marked-requires
+bucket-marked-requires c κs = search needs
 
-slice-aggregate-skip-search-2 : tie.Need-slice-aggregate-skip-search-2
-slice-aggregate-skip-search-2 c = search needs
-
-skip-search-requires : tie.Need-skip-search-requires
-unfolding headers offsets
-skip-search-requires c κs = (table-keeps, search needs)
+searched-requires : tie.Need-searched-requires
+searched-requires c κs = search needs
 
 returns : tie.Need-returns
-unfolding headers offsets
-returns c = c .skip-search .ensures .0 ∙ table-right _ (search needs)
+returns c = search needs
+
+returns-2 : tie.Need-returns-2
+returns-2 c = unmarked marks flat all-marked _ (sym (c .before .bucket-marked .ensures) ∙ c .if1 .left)
 
 pub lookup-spec : {M : Type 1} → statement M
-lookup-spec =
-    tie.close (tie.spec slice-aggregate-skip-search slice-aggregate-skip-search-2 skip-search-requires returns)
+lookup-spec = tie.close (tie.spec bucket-marked-requires searched-requires returns returns-2)
