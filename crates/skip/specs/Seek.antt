@@ -17,6 +17,11 @@ abbrev pub prev : ℕ → List ℕ → ℕ → ℕ
 prev p hs zero = p
 prev p hs (suc k) = prefixSum (getD hs k 0)
 
+-- the sum of a list
+abbrev pub total : List ℕ → ℕ
+total [] = 0
+total (o ∷ os) = o + total os
+
 -- how many offsets bring the sum so far to no more than x, before the first that does not
 unfoldable pub upto : ℕ → ℕ → List ℕ → ℕ
 upto x at [] = 0

@@ -1,14 +1,14 @@
 // What other crates call: the lowest broken rule, and the search in a table that keeps the rules.
 ghost use mathlib.Core.Path.{_≡_};
 ghost use mathlib.Core.Bool.{true};
-ghost use Prim.Native.Nat.{_+_, _≤_, _<_};
-ghost use lib.ListN.{length, drop};
+ghost use Prim.Native.Nat.{_+_, _*_, _≤_, _<_};
+ghost use lib.ListN.{length, getD, drop};
 ghost use lib.Seq.{slice};
 ghost use Rattle.sets.specs.Boundaries.{member};
 ghost use Rattle.skip.specs.Headers.{runEnd};
 ghost use Rattle.skip.specs.Table.{boundaries, reads};
 ghost use Rattle.skip.specs.Rules.{W4, broken};
-ghost use Rattle.skip.specs.Seek.{Run, prev, upto};
+ghost use Rattle.skip.specs.Seek.{Run, prev, total, upto};
 use crate::prefix_sum;
 use crate::rules::sizes_ok;
 use crate::rules::starts_at_zero;
@@ -94,21 +94,62 @@ fn sum_before(headers: &[u32], k: usize) -> u32
     prefix_sum(headers[j])
 }
 
-// The place from `begin` on at which the sum so far passes x, or `last`.
-fn within(offsets: &[u8], x: u32, begin: usize, last: usize, before: u32) -> usize
+// The offset at i, with the bound that lets a caller add eight of them.
+fn offset(offsets: &[u8], i: usize) -> u32
+    requires { ⌜ i < length (now offsets) ⌝ }
+    ensures { λ r. ⌜ (r ≡ getD (now (offsets .entry)) i 0) × (r ≤ 255) ⌝ }
+{
+    offsets[i] as u32
+}
+
+// The sum of the eight offsets from i on.
+fn eight(offsets: &[u8], i: usize) -> u32
+    requires { ⌜ i + 8 ≤ length (now offsets) ⌝ }
+    ensures { λ r. ⌜ (r ≡ total (slice i (i + 8) (now (offsets .entry)))) × (r ≤ 8 * 255) ⌝ }
+{
+    offset(offsets, i)
+        + offset(offsets, i + 1)
+        + offset(offsets, i + 2)
+        + offset(offsets, i + 3)
+        + offset(offsets, i + 4)
+        + offset(offsets, i + 5)
+        + offset(offsets, i + 6)
+        + offset(offsets, i + 7)
+}
+
+// The place from `begin` on at which the sum so far passes x, or `last`: one offset after the other.
+fn one_by_one(offsets: &[u8], x: u32, begin: usize, last: usize, before: u32) -> usize
     requires { ⌜ (begin ≤ last) × (last < length (now offsets)) × (x ≤ 0x10FFFF) × (before ≤ x) ⌝ }
     ensures { λ r. ⌜ (r ≡ begin + upto x before (slice begin last (now (offsets .entry)))) × (begin ≤ r) × (r ≤ last) ⌝ }
 {
     let mut at = before;
     let mut i = begin;
     while i < last {
-        at += widen(offsets[i]);
+        at += offset(offsets, i);
         if x < at {
             return i;
         }
         i += 1;
     }
     i
+}
+
+// The same place. No offset lowers the sum, so eight that together do not bring it past x are passed at once.
+fn within(offsets: &[u8], x: u32, begin: usize, last: usize, before: u32) -> usize
+    requires { ⌜ (begin ≤ last) × (last < length (now offsets)) × (x ≤ 0x10FFFF) × (before ≤ x) ⌝ }
+    ensures { λ r. ⌜ (r ≡ begin + upto x before (slice begin last (now (offsets .entry)))) × (begin ≤ r) × (r ≤ last) ⌝ }
+{
+    let mut at = before;
+    let mut i = begin;
+    while last - i >= 8 {
+        let next = at + eight(offsets, i);
+        if x < next {
+            break;
+        }
+        at = next;
+        i += 8;
+    }
+    one_by_one(offsets, x, i, last, at)
 }
 
 // The answer of an accepted table; a run's last offset is never read.

@@ -13,8 +13,8 @@ use lib.Dec.{leb}
 use Rattle.sets.proofs.Decide.{and-left, and-right, and-both}
 use Rattle.skip.specs.Headers.{startIndex, prefixSum, runEnd}
 use Rattle.skip.specs.Rules.{W3, W4, W5}
-use Rattle.skip.specs.Seek.{prev}
-use Rattle.skip_rules.specs.Stated.{sum, total, butLast, RuleW3, RuleW4, RuleW5}
+use Rattle.skip.specs.Seek.{prev, total}
+use Rattle.skip_rules.specs.Stated.{sum, butLast, RuleW3, RuleW4, RuleW5}
 use Rattle.skip.proofs.Sought.{starts-on, starts-end, part, shift}
 use Rattle.skip.proofs.Sums.{sums-mono, last-high}
 

@@ -7,7 +7,7 @@ use lib.ListN.{length, getD, drop}
 use lib.Seq.{slice}
 use Rattle.sets.specs.Orders.{Rises}
 use Rattle.skip.specs.Headers.{startIndex, prefixSum, runEnd}
-use Rattle.skip.specs.Seek.{prev}
+use Rattle.skip.specs.Seek.{prev, total}
 
 -- run k's start and prefix sum
 abbrev pub start : List ℕ → ℕ → ℕ
@@ -19,10 +19,6 @@ sum hs k = prefixSum (getD hs k 0)
 -- "Run k's offsets lie from its start to the next start, or to the end": all of them but the last
 abbrev pub butLast : List ℕ → List ℕ → ℕ → List ℕ
 butLast hs os k = slice (start hs k) (runEnd (length os) (drop (k + 1) hs) - 1) os
-
-abbrev pub total : List ℕ → ℕ
-total [] = 0
-total (o ∷ os) = o + total os
 
 -- "W1: 1 to 2,048 headers and 1 to 2,048 offset bytes."
 pub record RuleW1 (hs os : List ℕ) : Type 0 where

@@ -1,12 +1,13 @@
 -- `skip::core::within` meets its contract. The invariant: the place that is sought is the same from i on, where the sum so
--- far, `at`, has not passed x. The measure is what is left to `last`. Assumes nothing.
+-- far, `at`, has not passed x. Eight offsets that together do not bring it past x keep it (`turn-on`); where they do, or
+-- fewer are left, what `one_by_one` finds from i on is that place. The measure is what is left to `last`. Assumes nothing.
 use Prim.Native.Nat.{_≤_, _-_, _+_}
-use mathlib.Core.Path.{_≡_, _∙_, sym, refl}
+use mathlib.Core.Path.{_≡_, _∙_, refl}
 use native.Mathlib.Omega.{arith}
 use borrow.Author.Needs.{needs}
 use lib.Seq.{slice}
 use Rattle.skip.specs.Seek.{upto}
-use Rattle.skip.proofs.Turn.{turn-in, turn-out, turn-end}
+use Rattle.skip.proofs.Turn.{turn-on}
 use Rattle.skip.proofs.core.within.Statement.{statement}
 use Rattle.skip.proofs.core.within.Tie as tie
 
@@ -19,28 +20,16 @@ abbrev μ-loop : tie.MeasureT-loop
 μ-loop offsets x begin last before at₀ i₀ at i = last - i
 
 loop-holds : tie.Need-loop-holds Inv-loop μ-loop
-loop-holds c = (search needs, search needs, search needs, refl)
+loop-holds c = search needs
 
-shared-slice-read-widen : tie.Need-shared-slice-read-widen Inv-loop μ-loop
-shared-slice-read-widen c = search needs
+sub-loop : tie.Need-sub-loop Inv-loop μ-loop
+sub-loop c = search needs
 
-widen-requires : tie.Need-widen-requires Inv-loop μ-loop
-widen-requires c κs = search needs
+eight-requires : tie.Need-eight-requires Inv-loop μ-loop
+eight-requires c κs = search needs
 
-add-at : tie.Need-add-at Inv-loop μ-loop
-add-at c = omega (arith, c .before .shared-slice-known2 .given (c .before .before .before .loop .i))
-
-returns : tie.Need-returns Inv-loop μ-loop
-returns c =
-    let args = c .before .before .before .before .before .before .args in
-    let turn = c .before .before .before .before .loop in
-    let o = c .before .widen .ensures in (
-      sym
-          (turn .inv .3
-          ∙ turn-out (args .offsets .now) (args .x) (turn .at) (turn .i) (args .last) (c .before .before .before .loop-test .taken) (omega arith) (omega arith)),
-      search needs,
-      search needs,
-    )
+add-next : tie.Need-add-next Inv-loop μ-loop
+add-next c = search needs
 
 add-i : tie.Need-add-i Inv-loop μ-loop
 add-i c = search needs
@@ -50,24 +39,22 @@ loop-less c = search needs
 
 loop-again : tie.Need-loop-again Inv-loop μ-loop
 loop-again c =
-    let args = c .before .before .before .before .before .before .args in
-    let turn = c .before .before .before .before .loop in (
+    let args = c .before .before .before .before .before .args in
+    let turn = c .before .before .before .loop in
+    let sum = c .before .eight .ensures .0 in (
       search needs,
       search needs,
       search needs,
       turn .inv .3
-          ∙ turn-in (args .offsets .now) (args .x) (turn .at) (turn .i) (args .last) (c .before .before .before .loop-test .taken) (omega arith) (omega arith)
-          ∙ rw (← (c .before .widen .ensures)) refl,
+          ∙ turn-on (args .offsets .now) (turn .i) (turn .i + 8) (args .last) (args .x) (turn .at) (omega arith) (omega arith) (omega arith) (omega arith)
+          ∙ rw (← sum) refl,
     )
 
-returns-2 : tie.Need-returns-2 Inv-loop μ-loop
-returns-2 c =
-    let args = c .before .before .before .args in
-    let turn = c .before .loop in (
-      sym (turn .inv .3 ∙ turn-end (args .offsets .now) (args .x) (turn .at) (turn .i) (args .last) (omega arith)),
-      search needs,
-      search needs,
-    )
+one-by-one-requires : tie.Need-one-by-one-requires Inv-loop μ-loop
+one-by-one-requires c κs = search needs
+
+returns : tie.Need-returns Inv-loop μ-loop
+returns c = search needs
 
 pub within-spec : {M : Type 1} → statement M
 within-spec =
@@ -76,11 +63,11 @@ within-spec =
     Inv-loop
     μ-loop
     loop-holds
-    shared-slice-read-widen
-    widen-requires
-    add-at
-    returns
+    sub-loop
+    eight-requires
+    add-next
     add-i
     loop-less
     loop-again
-    returns-2)
+    one-by-one-requires
+    returns)
