@@ -27,7 +27,7 @@
  * where the length is 0: any aligned address will do there, as that of a local. Buffers that are lent to one call must not
  * overlap. On success every element past the reported length is as it was.
  *
- * ROOM. Code and tables are 27 KB. The BECKTRESTLE_STACK_ macros are the deepest stack, measured over every number to 0x10FFFF
+ * ROOM. Code and tables are 29 KB. The BECKTRESTLE_STACK_ macros are the deepest stack, measured over every number to 0x10FFFF
  * and lists of every length. Time: docs/PERFORMANCE.md.
  */
 #ifndef BECKTRESTLE_H
@@ -55,7 +55,7 @@ extern "C" {
 /* How many bytes of stack a call takes at the most, beyond the caller's own: measured, and kept by the gate. */
 #define BECKTRESTLE_STACK_PRINTABLE 8448 /* is_printable */
 #define BECKTRESTLE_STACK_PROPERTY 1920  /* every other property */
-#define BECKTRESTLE_STACK_MAPPING 1536   /* the three mappings */
+#define BECKTRESTLE_STACK_MAPPING 256    /* the three mappings */
 #define BECKTRESTLE_STACK_OTHER 256      /* all else */
 
 /* Accepted where refusal is 0. */
