@@ -17,7 +17,6 @@
  *     6   the offset buffer is shorter than 2n+1                                                 the need
  *     7   the header buffer is shorter than the runs                                             the need
  *     8   a table breaks a rule W1 to W5                                                         the lowest, 1 to 5
- *     9   a mapped number is no scalar value (no built-in row has one)                           0
  *    10   a buffer for an encoding or an unpacked list is too short                              the need
  *
  * A need counts elements of the short buffer, not bytes. Where refusal is not 0, every other number of a result but

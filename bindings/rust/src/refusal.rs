@@ -19,8 +19,6 @@ pub enum Refusal {
     ShortHeaders(usize),
     /// 8: the lowest rule, 1 to 5, that the table breaks.
     BrokenRule(usize),
-    /// 9: a mapped number is no scalar value.
-    NotScalar,
     /// 10: how many elements the buffer must hold.
     ShortBuffer(usize),
 }
@@ -37,7 +35,6 @@ impl Refusal {
             Refusal::ShortOffsets(_) => 6,
             Refusal::ShortHeaders(_) => 7,
             Refusal::BrokenRule(_) => 8,
-            Refusal::NotScalar => 9,
             Refusal::ShortBuffer(_) => 10,
         }
     }
@@ -54,7 +51,6 @@ impl Refusal {
             6 => Refusal::ShortOffsets(carried),
             7 => Refusal::ShortHeaders(carried),
             8 => Refusal::BrokenRule(carried),
-            9 => Refusal::NotScalar,
             10 => Refusal::ShortBuffer(carried),
             other => unreachable!("the library has no refusal {other}"),
         })
@@ -72,7 +68,6 @@ impl fmt::Display for Refusal {
             Refusal::ShortOffsets(need) => write!(f, "the offset buffer must hold {need}"),
             Refusal::ShortHeaders(need) => write!(f, "the header buffer must hold {need}"),
             Refusal::BrokenRule(rule) => write!(f, "the table breaks rule W{rule}"),
-            Refusal::NotScalar => write!(f, "a mapped number is no scalar value"),
             Refusal::ShortBuffer(need) => write!(f, "the buffer must hold {need}"),
         }
     }

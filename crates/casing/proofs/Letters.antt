@@ -1,53 +1,44 @@
 -- What stands under the rows: ASCII letters as one row of 26, written out, give what the ASCII functions give; and the four ways
 -- through a mapping's code are the four cases of its definition. Assumes nothing.
-use Prim.Native.Nat.{ℕ, suc, _+_, _-_, _/_, _%_, _<_, _≤_}
+use Prim.Native.Nat.{ℕ, _+_, _-_, _/_, _%_, _<_, _≤_}
 use mathlib.Core.Path.{_≡_, _∙_, sym, refl}
-use mathlib.Core.Bool.{Bool, true, false, cond, not, _&&_, _||_}
+use mathlib.Core.Bool.{Bool, true, false, cond, not, _&&_}
 use mathlib.Core.List.{List, [], _∷_}
 use mathlib.Core.Logic.{⊎-elim}
 use native.Mathlib.Omega.{arith}
 use borrow.Author.Tests.{eq-eqb, ne-eqb, lt-ltb, le-ltb, leb-true}
 use lib.Dec.{eqb, leb, ltb}
-use Rattle.scalar.specs.Scalars.{scalarElse, between}
+use Rattle.scalar.specs.Scalars.{between}
 use Rattle.sets.proofs.Decide.{same, and-left, and-right}
 use Rattle.casing.specs.declared.Mapping.{Mapping}
-use Rattle.casing.specs.Answers.{made, isScalar, answer, asciiLowered, asciiUppered}
+use Rattle.casing.specs.Answers.{made, asciiLowered, asciiUppered}
 use Rattle.casing.specs.Rows.{Rows, Row, firstRow, looked, inRows, fromFloor}
-use Rattle.casing.proofs.Answers.{answers}
 use Rattle.casing.proofs.Expand.{expandSingles, find, find-singles}
-use Rattle.casing.proofs.Whole.{answerRow}
-
-zero-scalar : isScalar 0 ≡ true
-unfolding scalarElse
-zero-scalar = refl
-
--- a scalar value as its own answer
-pub itself : (n : ℕ) → isScalar n ≡ true → made n 0 0 ≡ answer n 0 0
-itself n s = answers n 0 0 s zero-scalar zero-scalar
+use Rattle.casing.proofs.Whole.{madeRow}
 
 abbrev pub letters : ℕ → ℕ → ℕ → List Row
 letters first last delta = expandSingles 0 ((first, last, 1, delta) ∷ [])
 
-module _ (first last delta n f : ℕ) (s : isScalar n ≡ true) (moves : between first last n ≡ true → (n + delta) % 65536 ≡ f) where
+module _ (first last delta n f : ℕ) (moves : between first last n ≡ true → (n + delta) % 65536 ≡ f) where
   by-test : (t : Bool) → between first last n ≡ t
-      → cond (t && true) (answer (0 + (n + delta) % 65536) 0 0) (made n 0 0) ≡ answer (cond t f n) 0 0
+      → cond (t && true) (made (0 + (n + delta) % 65536) 0 0) (made n 0 0) ≡ made (cond t f n) 0 0
   by-test true e = let m = moves e in let z : 0 + (n + delta) % 65536 ≡ f = omega arith in rw z refl
-  by-test false e = itself n s
+  by-test false e = refl
 
-  letters-map : find n answerRow (letters first last delta) (made n 0 0) ≡ answer (cond (between first last n) f n) 0 0
+  letters-map : find n madeRow (letters first last delta) (made n 0 0) ≡ made (cond (between first last n) f n) 0 0
   unfolding firstRow
   letters-map =
-      find-singles n answerRow 0 ((first, last, 1, delta) ∷ []) n (made n 0 0) (omega arith) ∙ by-test (between first last n) refl
+      find-singles n madeRow 0 ((first, last, 1, delta) ∷ []) n (made n 0 0) (omega arith) ∙ by-test (between first last n) refl
 
-module _ (n : ℕ) (s : isScalar n ≡ true) where
-  pub lower-letters : find n answerRow (letters 0x41 0x5A 0x20) (made n 0 0) ≡ answer (asciiLowered n) 0 0
+module _ (n : ℕ) where
+  pub lower-letters : find n madeRow (letters 0x41 0x5A 0x20) (made n 0 0) ≡ made (asciiLowered n) 0 0
   lower-letters =
-      letters-map 0x41 0x5A 0x20 n (n + 0x20) s
+      letters-map 0x41 0x5A 0x20 n (n + 0x20)
       (λ b. let h = leb-true n 0x5A (and-right (leb 0x41 n) (leb n 0x5A) b) in omega arith)
 
-  pub upper-letters : find n answerRow (letters 0x61 0x7A 0xFFE0) (made n 0 0) ≡ answer (asciiUppered n) 0 0
+  pub upper-letters : find n madeRow (letters 0x61 0x7A 0xFFE0) (made n 0 0) ≡ made (asciiUppered n) 0 0
   upper-letters =
-      letters-map 0x61 0x7A 0xFFE0 n (n - 0x20) s
+      letters-map 0x61 0x7A 0xFFE0 n (n - 0x20)
       (λ b.
       let l = leb-true 0x61 n (and-left (leb 0x61 n) (leb n 0x7A) b) in
       let h = leb-true n 0x7A (and-right (leb 0x61 n) (leb n 0x7A) b) in

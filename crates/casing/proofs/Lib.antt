@@ -6,5 +6,6 @@ pub mod Pages
 pub mod Arms
 pub mod Expand
 pub mod Whole
+pub mod Scalars
 pub mod Letters
 mod Fixed

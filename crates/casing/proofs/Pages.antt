@@ -6,7 +6,7 @@ use mathlib.Core.Bool.{Bool, true, false, cond, _&&_}
 use mathlib.Core.List.{List, [], _∷_}
 use mathlib.Core.Logic.{⊎-elim}
 use native.Mathlib.Omega.{arith}
-use borrow.Author.Tests.{eqb-true, leb-true, ltb-true, eq-eqb}
+use borrow.Author.Tests.{leb-true, ltb-true}
 use lib.Dec.{leb, ltb, eqb}
 use lib.ListN.{length, getD}
 use Rattle.scalar.specs.Scalars.{between}
@@ -16,11 +16,10 @@ use Rattle.casing.specs.declared.core.Found.{Found}
 use Rattle.casing.specs.declared.core.Found.the-variants.{To, Nothing}
 use Rattle.casing.specs.declared.core.Page.{Page}
 use Rattle.casing.specs.declared.core.Page.the-variants as page
-use Rattle.casing.specs.Answers.{answer}
 use Rattle.casing.specs.Rows.{Rows, Row, zip, firstRow, covers, moved, single, multiple, singles, multis, looked, apart, tidySingles, tidyMultis}
 use Rattle.casing.specs.Reading.{orElse, Says, rowSays, wordOf, unpacked, packed, pageOf, Halved, among, inUse, singlesPaged, multisPaged, pagesFit, rowsFit, readable}
 use Rattle.casing.proofs.Sorted.{Only, only, no-last}
-use Rattle.casing.proofs.Reader.{empty, zip-length, zip-at, singles-parts, multis-parts, single-found, single-missed, multi-missed}
+use Rattle.casing.proofs.Reader.{empty, zip-length, zip-at, singles-parts, single-found, single-missed, multi-missed}
 
 not-both : {A : Type 0} {t : Bool} → t ≡ true → t ≡ false → A
 not-both e f = let z : _≡_ {A = ℕ} 0 1 = cc in absurd (omega arith)

@@ -12,7 +12,7 @@ use lib.ListN.{length, getD}
 use Rattle.scalar.specs.Scalars.{between}
 use Rattle.sets.proofs.Decide.{same, and-left, and-right, and-not-left}
 use Rattle.casing.specs.declared.Mapping.{Mapping}
-use Rattle.casing.specs.Answers.{answer}
+use Rattle.casing.specs.Answers.{made}
 use Rattle.casing.specs.Rows.{Row, zip, firstRow, covers, moved, inPlane, inPlaneOr0, single, multiple, apart, tidySingles, tidyMultis}
 use Rattle.casing.proofs.Sorted.{Only, apart-length}
 
@@ -105,17 +105,17 @@ multis-parts multi first second third t =
 module _ (starts ends steps deltas : List ℕ) (plane x : ℕ) (other : Mapping) (t : tidySingles starts ends steps deltas ≡ true) where
   module _ (r : ℕ) (o : Only starts ends x r) where
     pub single-found : r < length starts → covers (getD starts r 0) (getD ends r 0) (getD steps r 0) x ≡ true
-        → single (zip starts ends steps deltas) plane x other ≡ answer (moved plane x (getD deltas r 0)) 0 0
+        → single (zip starts ends steps deltas) plane x other ≡ made (moved plane x (getD deltas r 0)) 0 0
     unfolding single
     single-found l hit =
-        found starts ends steps deltas (singles-parts starts ends steps deltas t .1) (λ q. covers (q .0) (q .1) (q .2) x) (λ q. answer (moved plane x (q .3)) 0 0) other r
+        found starts ends steps deltas (singles-parts starts ends steps deltas t .1) (λ q. covers (q .0) (q .1) (q .2) x) (λ q. made (moved plane x (q .3)) 0 0) other r
         (λ j k ne. and-not-left _ _ (o .others j k ne)) l hit
 
     pub single-missed : (r < length starts → covers (getD starts r 0) (getD ends r 0) (getD steps r 0) x ≡ false)
         → single (zip starts ends steps deltas) plane x other ≡ other
     unfolding single
     single-missed not-it =
-        missed starts ends steps deltas (singles-parts starts ends steps deltas t .1) (λ q. covers (q .0) (q .1) (q .2) x) (λ q. answer (moved plane x (q .3)) 0 0) other r
+        missed starts ends steps deltas (singles-parts starts ends steps deltas t .1) (λ q. covers (q .0) (q .1) (q .2) x) (λ q. made (moved plane x (q .3)) 0 0) other r
         (λ j k ne. and-not-left _ _ (o .others j k ne)) not-it
 
 -- a row that starts and ends at k holds k alone
@@ -129,5 +129,5 @@ module _ (multi first second third : List ℕ) (plane x : ℕ) (other : Mapping)
     unfolding multiple
     multi-missed not-it =
         missed multi first second third (multis-parts multi first second third t .1) (λ q. eqb (q .0) x)
-        (λ q. answer (inPlane plane (q .1)) (inPlaneOr0 plane (q .2)) (inPlaneOr0 plane (q .3))) other r
+        (λ q. made (inPlane plane (q .1)) (inPlaneOr0 plane (q .2)) (inPlaneOr0 plane (q .3))) other r
         (λ j k ne. alone (getD multi j 0) x (o .others j k ne)) (λ l. ne-eqb (getD multi r 0) x (not-it l))

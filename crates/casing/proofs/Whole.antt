@@ -1,44 +1,23 @@
 -- A whole mapping: the packed rows of two planes over what stands under them (ASCII letters, or another mapping's list), from
 -- a floor on. Written out they are one list; if that list is Unicode's, and a few tests hold, the mapping is what Unicode's
 -- list says of every number. The argument is made here once, and each mapping cites it. Assumes nothing.
-use Prim.Native.Nat.{ℕ, zero, suc, _+_, _-_, _*_, _/_, _%_, _<_, _≤_}
+use Prim.Native.Nat.{ℕ, _+_, _-_, _/_, _%_, _<_, _≤_}
 use mathlib.Core.Path.{_≡_, _∙_, sym, refl, ap}
-use mathlib.Core.Bool.{Bool, true, false, cond, not, _&&_, _||_}
-use mathlib.Core.List.{List, [], _∷_, _++_}
+use mathlib.Core.Bool.{Bool, true, not, _&&_}
+use mathlib.Core.List.{List, _++_}
 use mathlib.Core.Logic.{_⊎_, inl, inr, ⊎-elim}
 use native.Mathlib.Omega.{arith}
 use borrow.Author.Tests.{eq-eqb, ne-eqb, lt-ltb, le-ltb}
 use lib.Dec.{eqb, ltb}
 use Rattle.sets.proofs.Decide.{split, same, and-left, and-right}
 use Rattle.casing.specs.declared.Mapping.{Mapping}
-use Rattle.casing.specs.Answers.{made, isScalar, answer}
-use Rattle.casing.specs.Rows.{Rows, Row, firstRow, single, multiple, singles, multis, looked, inRows, fromFloor}
+use Rattle.casing.specs.Answers.{made}
+use Rattle.casing.specs.Rows.{Rows, Row, single, multiple, singles, multis, looked, inRows, fromFloor}
 use Rattle.casing.specs.Listed.{quads, rowOf}
-use Rattle.casing.proofs.Answers.{answers}
-use Rattle.casing.proofs.Expand.{expandSingles, expandMultis, merge, rising, spans, lies, key, find, find-append, find-merge, find-singles, find-multis, singles-out, multis-out, find-hit, find-on, find-nil}
-
-abbrev pub answerRow : Row → Mapping
-answerRow q = answer (q .1) (q .2) (q .3)
+use Rattle.casing.proofs.Expand.{expandSingles, expandMultis, merge, rising, spans, lies, find, find-append, find-merge, find-singles, find-multis, singles-out, multis-out}
 
 abbrev pub madeRow : Row → Mapping
 madeRow q = made (q .1) (q .2) (q .3)
-
--- every mapped number of the rows is a scalar value
-unfoldable pub scalars : List Row → Bool
-scalars [] = true
-scalars (q ∷ qs) = isScalar (q .1) && isScalar (q .2) && isScalar (q .3) && scalars qs
-
-pub answers-made : (x : ℕ) (qs : List Row) (o : Mapping) → scalars qs ≡ true → find x answerRow qs o ≡ find x madeRow qs o
-unfolding scalars firstRow
-answers-made x [] o t = refl
-answers-made x (q ∷ qs) o t =
-    let a = isScalar (q .1) in
-    let b = isScalar (q .2) in
-    let c = isScalar (q .3) in
-    let u = and-left (a && b && c) (scalars qs) t in
-    let v = and-left (a && b) c u in
-    let e : answerRow q ≡ madeRow q = sym (answers (q .1) (q .2) (q .3) (and-left a b v) (and-right a b v) (and-right (a && b) c u)) in
-    rw (answers-made x qs o (and-right (a && b && c) (scalars qs) t), e) refl
 
 -- the rows of both planes, written out
 abbrev pub allSingles : Rows → Rows → List Row
@@ -84,66 +63,66 @@ module _ (floor : ℕ) (rows0 rows1 : Rows) (under : List Row) (low : floor ≤ 
 
   module _ (n : ℕ) (o : Mapping) where
     -- a lookup in what is written out: plane by plane, single rows, then multi rows, then what stands under them
-    layers : find n answerRow (written rows0 rows1 under) o
-        ≡ find n answerRow (expandSingles 0 (singles rows0)) (find n answerRow (expandSingles 65536 (singles rows1))
-        (find n answerRow (expandMultis 0 (multis rows0)) (find n answerRow (expandMultis 65536 (multis rows1)) (find n answerRow under o))))
+    layers : find n madeRow (written rows0 rows1 under) o
+        ≡ find n madeRow (expandSingles 0 (singles rows0)) (find n madeRow (expandSingles 65536 (singles rows1))
+        (find n madeRow (expandMultis 0 (multis rows0)) (find n madeRow (expandMultis 65536 (multis rows1)) (find n madeRow under o))))
     layers =
-        find-merge n answerRow 4000 0 (allSingles rows0 rows1) (merge 4000 (allMultis rows0 rows1) under) o (parts .rise)
-        ∙ rw (find-merge n answerRow 4000 0 (allMultis rows0 rows1) under o (parts .climb)) (
-        find-append n answerRow (expandSingles 0 (singles rows0)) (expandSingles 65536 (singles rows1)) _
-        ∙ rw (find-append n answerRow (expandMultis 0 (multis rows0)) (expandMultis 65536 (multis rows1)) (find n answerRow under o)) refl)
+        find-merge n madeRow 4000 0 (allSingles rows0 rows1) (merge 4000 (allMultis rows0 rows1) under) o (parts .rise)
+        ∙ rw (find-merge n madeRow 4000 0 (allMultis rows0 rows1) under o (parts .climb)) (
+        find-append n madeRow (expandSingles 0 (singles rows0)) (expandSingles 65536 (singles rows1)) _
+        ∙ rw (find-append n madeRow (expandMultis 0 (multis rows0)) (expandMultis 65536 (multis rows1)) (find n madeRow under o)) refl)
 
     abbrev other : Mapping
-    other = find n answerRow under o
+    other = find n madeRow under o
 
     -- out of plane 0, and out of plane 1
-    out0 : (z : Mapping) → (n < floor) ⊎ (65536 ≤ n) → find n answerRow (expandSingles 0 (singles rows0)) z ≡ z
-    out0 z h = singles-out n answerRow 0 floor 65535 (singles rows0) z (parts .span0) (⊎-elim (λ l. inl (omega arith)) (λ l. inr (omega arith)) h)
+    out0 : (z : Mapping) → (n < floor) ⊎ (65536 ≤ n) → find n madeRow (expandSingles 0 (singles rows0)) z ≡ z
+    out0 z h = singles-out n madeRow 0 floor 65535 (singles rows0) z (parts .span0) (⊎-elim (λ l. inl (omega arith)) (λ l. inr (omega arith)) h)
 
-    out0m : (z : Mapping) → (n < floor) ⊎ (65536 ≤ n) → find n answerRow (expandMultis 0 (multis rows0)) z ≡ z
-    out0m z h = multis-out n answerRow 0 floor 65535 (multis rows0) z (parts .lie0) (⊎-elim (λ l. inl (omega arith)) (λ l. inr (omega arith)) h)
+    out0m : (z : Mapping) → (n < floor) ⊎ (65536 ≤ n) → find n madeRow (expandMultis 0 (multis rows0)) z ≡ z
+    out0m z h = multis-out n madeRow 0 floor 65535 (multis rows0) z (parts .lie0) (⊎-elim (λ l. inl (omega arith)) (λ l. inr (omega arith)) h)
 
-    out1 : (z : Mapping) → (n < 65536) ⊎ (131072 ≤ n) → find n answerRow (expandSingles 65536 (singles rows1)) z ≡ z
-    out1 z h = singles-out n answerRow 65536 0 65535 (singles rows1) z (parts .span1) (⊎-elim (λ l. inl (omega arith)) (λ l. inr (omega arith)) h)
+    out1 : (z : Mapping) → (n < 65536) ⊎ (131072 ≤ n) → find n madeRow (expandSingles 65536 (singles rows1)) z ≡ z
+    out1 z h = singles-out n madeRow 65536 0 65535 (singles rows1) z (parts .span1) (⊎-elim (λ l. inl (omega arith)) (λ l. inr (omega arith)) h)
 
-    out1m : (z : Mapping) → (n < 65536) ⊎ (131072 ≤ n) → find n answerRow (expandMultis 65536 (multis rows1)) z ≡ z
-    out1m z h = multis-out n answerRow 65536 0 65535 (multis rows1) z (parts .lie1) (⊎-elim (λ l. inl (omega arith)) (λ l. inr (omega arith)) h)
+    out1m : (z : Mapping) → (n < 65536) ⊎ (131072 ≤ n) → find n madeRow (expandMultis 65536 (multis rows1)) z ≡ z
+    out1m z h = multis-out n madeRow 65536 0 65535 (multis rows1) z (parts .lie1) (⊎-elim (λ l. inl (omega arith)) (λ l. inr (omega arith)) h)
 
-    in0 : n < 65536 → (z : Mapping) → find n answerRow (expandSingles 0 (singles rows0)) z ≡ single (singles rows0) 0 (n % 65536) z
+    in0 : n < 65536 → (z : Mapping) → find n madeRow (expandSingles 0 (singles rows0)) z ≡ single (singles rows0) 0 (n % 65536) z
     unfolding single
-    in0 l z = find-singles n answerRow 0 (singles rows0) (n % 65536) z (omega arith)
+    in0 l z = find-singles n madeRow 0 (singles rows0) (n % 65536) z (omega arith)
 
-    in0m : n < 65536 → (z : Mapping) → find n answerRow (expandMultis 0 (multis rows0)) z ≡ multiple (multis rows0) 0 (n % 65536) z
+    in0m : n < 65536 → (z : Mapping) → find n madeRow (expandMultis 0 (multis rows0)) z ≡ multiple (multis rows0) 0 (n % 65536) z
     unfolding multiple
-    in0m l z = find-multis n answerRow 0 (multis rows0) (n % 65536) z (omega arith)
+    in0m l z = find-multis n madeRow 0 (multis rows0) (n % 65536) z (omega arith)
 
-    in1 : 65536 ≤ n → n < 131072 → (z : Mapping) → find n answerRow (expandSingles 65536 (singles rows1)) z ≡ single (singles rows1) 1 (n % 65536) z
+    in1 : 65536 ≤ n → n < 131072 → (z : Mapping) → find n madeRow (expandSingles 65536 (singles rows1)) z ≡ single (singles rows1) 1 (n % 65536) z
     unfolding single
-    in1 k l z = find-singles n answerRow 65536 (singles rows1) (n % 65536) z (omega arith)
+    in1 k l z = find-singles n madeRow 65536 (singles rows1) (n % 65536) z (omega arith)
 
-    in1m : 65536 ≤ n → n < 131072 → (z : Mapping) → find n answerRow (expandMultis 65536 (multis rows1)) z ≡ multiple (multis rows1) 1 (n % 65536) z
+    in1m : 65536 ≤ n → n < 131072 → (z : Mapping) → find n madeRow (expandMultis 65536 (multis rows1)) z ≡ multiple (multis rows1) 1 (n % 65536) z
     unfolding multiple
-    in1m k l z = find-multis n answerRow 65536 (multis rows1) (n % 65536) z (omega arith)
+    in1m k l z = find-multis n madeRow 65536 (multis rows1) (n % 65536) z (omega arith)
 
-    below : n < floor → find n answerRow (written rows0 rows1 under) o ≡ other
+    below : n < floor → find n madeRow (written rows0 rows1 under) o ≡ other
     below l = layers ∙ out0 _ (inl l) ∙ out1 _ (inl (omega arith)) ∙ out0m _ (inl l) ∙ out1m _ (inl (omega arith))
 
-    plane0 : floor ≤ n → n < 65536 → find n answerRow (written rows0 rows1 under) o ≡ looked rows0 0 (n % 65536) other
+    plane0 : floor ≤ n → n < 65536 → find n madeRow (written rows0 rows1 under) o ≡ looked rows0 0 (n % 65536) other
     plane0 k l =
         layers ∙ in0 l _
         ∙ ap (λ (z : Mapping). single (singles rows0) 0 (n % 65536) z)
         (out1 _ (inl l) ∙ in0m l _ ∙ ap (λ (z : Mapping). multiple (multis rows0) 0 (n % 65536) z) (out1m _ (inl l)))
 
-    plane1 : 65536 ≤ n → n < 131072 → find n answerRow (written rows0 rows1 under) o ≡ looked rows1 1 (n % 65536) other
+    plane1 : 65536 ≤ n → n < 131072 → find n madeRow (written rows0 rows1 under) o ≡ looked rows1 1 (n % 65536) other
     plane1 k l =
         layers ∙ out0 _ (inr k) ∙ in1 k l _
         ∙ ap (λ (z : Mapping). single (singles rows1) 1 (n % 65536) z) (out0m _ (inr k) ∙ in1m k l _)
 
-    above : 131072 ≤ n → find n answerRow (written rows0 rows1 under) o ≡ other
+    above : 131072 ≤ n → find n madeRow (written rows0 rows1 under) o ≡ other
     above l = layers ∙ out0 _ (inr (omega arith)) ∙ out1 _ (inr l) ∙ out0m _ (inr (omega arith)) ∙ out1m _ (inr l)
 
     -- so it is the mapping of document 01, whatever stands under the rows
-    pub written-maps : find n answerRow (written rows0 rows1 under) o ≡ fromFloor floor rows0 rows1 n other
+    pub written-maps : find n madeRow (written rows0 rows1 under) o ≡ fromFloor floor rows0 rows1 n other
     unfolding inRows
     written-maps =
         ⊎-elim
@@ -162,11 +141,10 @@ module _ (floor : ℕ) (rows0 rows1 : Rows) (under : List Row) (low : floor ≤ 
         (λ (h : n < floor). rw (lt-ltb n floor h) (below h))
         (split floor n)
 
-  -- Unicode's list, if it is what is written out and maps to scalar values alone
-  module _ (list : List ℕ) (same-list : written rows0 rows1 under ≡ quads list) (all : scalars (quads list) ≡ true) where
-    pub list-maps : (n : ℕ) → rowOf list n ≡ fromFloor floor rows0 rows1 n (find n answerRow under (made n 0 0))
+  -- Unicode's list, if it is what is written out
+  module _ (list : List ℕ) (same-list : written rows0 rows1 under ≡ quads list) where
+    pub list-maps : (n : ℕ) → rowOf list n ≡ fromFloor floor rows0 rows1 n (find n madeRow under (made n 0 0))
     unfolding rowOf
     list-maps n =
-        sym (answers-made n (quads list) (made n 0 0) all)
-        ∙ ap (λ (qs : List Row). find n answerRow qs (made n 0 0)) (sym same-list)
+        ap (λ (qs : List Row). find n madeRow qs (made n 0 0)) (sym same-list)
         ∙ written-maps n (made n 0 0)

@@ -1,10 +1,10 @@
 -- The answer of a mapping: three numbers with a count, or a refusal. Assumes nothing: these are definitions.
 use Prim.Native.Nat.{ℕ, _+_, _-_}
 use mathlib.Core.Path.{_≡_}
-use mathlib.Core.Bool.{Bool, true, false, cond, _&&_}
+use mathlib.Core.Bool.{cond}
 use mathlib.Core.List.{[], _∷_}
 use lib.Dec.{eqb}
-use Rattle.scalar.specs.Scalars.{scalarElse, asciiUpper, asciiLower}
+use Rattle.scalar.specs.Scalars.{asciiUpper, asciiLower}
 use Rattle.scalar.specs.declared.refusal.Refusal.{Refusal}
 use Rattle.scalar.specs.declared.refusal.Refusal.the-variants as refusal
 use Rattle.casing.specs.declared.Mapping.{Mapping}
@@ -26,15 +26,6 @@ pub record Used (second third count : ℕ) : Type 0 where
 -- the three mapped numbers go by value, with a count of 1 to 3
 unfoldable pub made : ℕ → ℕ → ℕ → Mapping
 made first second third = record { to = first ∷ second ∷ third ∷ []; count = used second third; refusal = refusal.None }
-
--- neither refusal 1 nor 2
-abbrev pub isScalar : ℕ → Bool
-isScalar n = scalarElse n false false true
-
--- refusal 9: a mapped number isn't a scalar value
-unfoldable pub answer : ℕ → ℕ → ℕ → Mapping
-answer first second third =
-    cond (isScalar first && isScalar second && isScalar third) (made first second third) (refused refusal.NotScalar)
 
 -- only ASCII letters change
 abbrev pub asciiLowered : ℕ → ℕ

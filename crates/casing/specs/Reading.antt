@@ -12,12 +12,12 @@ use Rattle.casing.specs.declared.core.Found.the-variants.{To, Nothing}
 use Rattle.casing.specs.declared.core.Four.{Four}
 use Rattle.casing.specs.declared.core.Page.{Page}
 use Rattle.casing.specs.declared.core.Page.the-variants as page
-use Rattle.casing.specs.Answers.{answer}
+use Rattle.casing.specs.Answers.{made}
 use Rattle.casing.specs.Rows.{Rows, Row, covers, moved, singles, apart, tidySingles, tidyMultis}
 
 -- the numbers that were found, as an answer, or else other
 abbrev pub orElse : Found → Mapping → Mapping
-orElse (To a b c) other = answer a b c
+orElse (To a b c) other = made a b c
 orElse Nothing other = other
 
 -- what was found is what these rows say, whatever stands under them

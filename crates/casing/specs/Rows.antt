@@ -6,7 +6,7 @@ use lib.Dec.{leb, ltb, eqb}
 use lib.ListN.{length}
 use Rattle.scalar.specs.Scalars.{between}
 use Rattle.casing.specs.declared.Mapping.{Mapping}
-use Rattle.casing.specs.Answers.{answer}
+use Rattle.casing.specs.Answers.{made}
 
 -- the rows of one plane, a list for each field: single rows, then multi rows with their three numbers
 pub record Rows : Type 0 where
@@ -54,12 +54,12 @@ inPlaneOr0 plane low = cond (eqb low 0) 0 (inPlane plane low)
 
 -- a plane's single rows, by the low 16 bits x
 unfoldable pub single : List Row → ℕ → ℕ → Mapping → Mapping
-single rows plane x other = firstRow (λ q. covers (q .0) (q .1) (q .2) x) (λ q. answer (moved plane x (q .3)) 0 0) rows other
+single rows plane x other = firstRow (λ q. covers (q .0) (q .1) (q .2) x) (λ q. made (moved plane x (q .3)) 0 0) rows other
 
 -- a plane's multi rows
 unfoldable pub multiple : List Row → ℕ → ℕ → Mapping → Mapping
 multiple rows plane x other =
-    firstRow (λ q. eqb (q .0) x) (λ q. answer (inPlane plane (q .1)) (inPlaneOr0 plane (q .2)) (inPlaneOr0 plane (q .3))) rows other
+    firstRow (λ q. eqb (q .0) x) (λ q. made (inPlane plane (q .1)) (inPlaneOr0 plane (q .2)) (inPlaneOr0 plane (q .3))) rows other
 
 abbrev pub singles : Rows → List Row
 singles rows = zip (rows .starts) (rows .ends) (rows .steps) (rows .deltas)

@@ -1,9 +1,7 @@
 // The mapping answer, the ASCII letters, and the row reader that the three mappings share.
 ghost use mathlib.Core.Path.{_≡_};
-ghost use Rattle.casing.specs.Answers.{refused, Used, answer};
+ghost use Rattle.casing.specs.Answers.{refused, Used, made};
 use scalar::Refusal;
-use scalar::Scalar;
-use scalar::ScalarCheck;
 
 pub mod ascii;
 pub mod core;
@@ -39,21 +37,12 @@ impl Mapping {
         }
     }
 
-    // The three numbers as an answer; refuses 9 where one isn't a scalar value.
+    // The three numbers as an answer.
     pub fn new(first: u32, second: u32, third: u32) -> Self
-        ensures { λ r. ⌜ r ≡ answer first second third ⌝ }
+        ensures { λ r. ⌜ r ≡ made first second third ⌝ }
     {
-        let ScalarCheck::Valid(a) = Scalar::new(first) else {
-            return Mapping::refused(Refusal::NotScalar);
-        };
-        let ScalarCheck::Valid(b) = Scalar::new(second) else {
-            return Mapping::refused(Refusal::NotScalar);
-        };
-        let ScalarCheck::Valid(c) = Scalar::new(third) else {
-            return Mapping::refused(Refusal::NotScalar);
-        };
         Mapping {
-            to: [a.value, b.value, c.value],
+            to: [first, second, third],
             count: used_of(second, third),
             refusal: Refusal::None,
         }

@@ -1,7 +1,5 @@
 // The title mapping of a scalar value.
 ghost use mathlib.Core.Path.{_≡_};
-ghost use mathlib.Core.Bool.{true};
-ghost use Rattle.casing.specs.Answers.{isScalar};
 ghost use Rattle.casing.specs.Listed.{rowOf};
 ghost use Rattle.casing.specs.Reading.{Says};
 ghost use Rattle.casing.specs.Rows.{looked, fromFloor};
@@ -43,9 +41,8 @@ fn by_rows(n: u32) -> Found
     Found::Nothing
 }
 
-// What Unicode's rows say of a scalar value: its own rows, and only where they have none the upper mapping.
+// What Unicode's rows say of a number: its own rows, and only where they have none the upper mapping.
 pub fn to_title(n: u32) -> Mapping
-    requires { ⌜ isScalar n ≡ true ⌝ }
     ensures { λ r. ⌜ r ≡ rowOf rows n ⌝ }
 {
     let Found::To(a, b, c) = by_rows(n) else {

@@ -1,9 +1,7 @@
 // The upper mapping of a scalar value.
 ghost use mathlib.Core.Path.{_≡_};
-ghost use mathlib.Core.Bool.{true};
 ghost use Prim.Native.Nat.{_≤_};
 ghost use lib.ListN.{length};
-ghost use Rattle.casing.specs.Answers.{isScalar};
 ghost use Rattle.casing.specs.Listed.{rowOf};
 ghost use Rattle.casing.specs.Reading.{Says, Halved};
 ghost use Rattle.casing.specs.Rows.{looked, fromFloor};
@@ -84,9 +82,8 @@ fn by_rows(n: u32) -> Found
     Found::Nothing
 }
 
-// What Unicode's rows say of a scalar value: where no row holds it, only ASCII letters change.
+// What Unicode's rows say of a number: where no row holds it, only ASCII letters change.
 pub fn to_upper(n: u32) -> Mapping
-    requires { ⌜ isScalar n ≡ true ⌝ }
     ensures { λ r. ⌜ r ≡ rowOf rows n ⌝ }
 {
     let Found::To(a, b, c) = by_rows(n) else {

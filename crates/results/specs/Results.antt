@@ -69,6 +69,6 @@ sizesOf p =
       offsets = packedOffsets p;
     }
 
--- a mapping, its refusal as a number; 1, 2 and 9 carry nothing
+-- a mapping, its refusal as a number; 1 and 2 carry nothing
 abbrev pub mappedOf : Mapping → Mapped
 mappedOf m = record { refusal = number (m .refusal); count = m .count; to = m .to }

@@ -2,7 +2,7 @@
 -- Assumes nothing: these are definitions.
 use Prim.Native.Nat.{ℕ}
 use Rattle.scalar.specs.declared.refusal.Refusal.{Refusal}
-use Rattle.scalar.specs.declared.refusal.Refusal.the-variants.{None, AboveMax, Surrogate, OddList, TooManyRanges, BadRange, ShortOffsets, ShortHeaders, BrokenRule, NotScalar, ShortBuffer}
+use Rattle.scalar.specs.declared.refusal.Refusal.the-variants.{None, AboveMax, Surrogate, OddList, TooManyRanges, BadRange, ShortOffsets, ShortHeaders, BrokenRule, ShortBuffer}
 
 -- the number in the table; 0 for none
 abbrev pub number : Refusal → ℕ
@@ -15,7 +15,6 @@ number (BadRange index) = 5
 number (ShortOffsets need) = 6
 number (ShortHeaders need) = 7
 number (BrokenRule rule) = 8
-number NotScalar = 9
 number (ShortBuffer need) = 10
 
 -- what it carries; 0 where the table says nothing
@@ -29,5 +28,4 @@ carried (BadRange index) = index
 carried (ShortOffsets need) = need
 carried (ShortHeaders need) = need
 carried (BrokenRule rule) = rule
-carried NotScalar = 0
 carried (ShortBuffer need) = need

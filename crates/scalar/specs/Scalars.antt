@@ -18,6 +18,10 @@ between low high x = leb low x && leb x high
 unfoldable pub scalarElse : {A : Type 0} → ℕ → A → A → A → A
 scalarElse n above surrogate good = cond (ltb 0x10FFFF n) above (cond (between 0xD800 0xDFFF n) surrogate good)
 
+-- neither refusal 1 nor 2
+abbrev pub isScalar : ℕ → Bool
+isScalar n = scalarElse n false false true
+
 -- a scalar value, or refusal 1, then 2
 abbrev pub checked : ℕ → ScalarCheck
 checked n =

@@ -21,8 +21,6 @@ pub enum Refusal {
     ShortHeaders(usize),
     // 8: the lowest broken rule, 1 to 5.
     BrokenRule(usize),
-    // 9: a mapped number isn't a scalar value.
-    NotScalar,
     // 10: the need of a buffer for an encoding or an unpacked list.
     ShortBuffer(usize),
 }
@@ -42,7 +40,6 @@ impl Refusal {
             Refusal::ShortOffsets(_) => 6,
             Refusal::ShortHeaders(_) => 7,
             Refusal::BrokenRule(_) => 8,
-            Refusal::NotScalar => 9,
             Refusal::ShortBuffer(_) => 10,
         }
     }
@@ -61,7 +58,6 @@ impl Refusal {
             Refusal::ShortOffsets(need) => need,
             Refusal::ShortHeaders(need) => need,
             Refusal::BrokenRule(rule) => rule,
-            Refusal::NotScalar => 0,
             Refusal::ShortBuffer(need) => need,
         }
     }

@@ -2,7 +2,7 @@
 -- Assumes nothing.
 use Prim.Native.Nat.{ℕ}
 use mathlib.Core.Path.{_∙_, sym, ap, refl}
-use Rattle.casing.specs.Answers.{answer}
+use Rattle.casing.specs.Answers.{made}
 use Rattle.casing.proofs.Pages.{said}
 use Rattle.casing_lower.proofs.Same.{unicode}
 use borrow.Author.Needs.{needs}
@@ -25,13 +25,13 @@ new-requires : tie.Need-new-requires
 new-requires c κs = search needs
 
 returns : tie.Need-returns
-returns c = said _ _ _ (sym (c .before .before .enum-told .given .1)) (c .before .before .before .before .by-rows .ensures) _ ∙ unicode _ _ (c .before .before .before .before .before .pre) (c .new .ensures ∙ ap (λ (z : ℕ). answer z 0 0) (c .before .to-ascii-lowercase .ensures))
+returns c = said _ _ _ (sym (c .before .before .enum-told .given .1)) (c .before .before .before .before .by-rows .ensures) _ ∙ unicode _ _ (c .new .ensures ∙ ap (λ (z : ℕ). made z 0 0) (c .before .to-ascii-lowercase .ensures))
 
 new-requires-2 : tie.Need-new-requires-2
 new-requires-2 c κs = search needs
 
 returns-2 : tie.Need-returns-2
-returns-2 c = c .new2 .ensures ∙ said _ _ _ (sym (c .before .before .a .given .1)) (c .before .before .before .before .by-rows .ensures) _ ∙ unicode _ _ (c .before .before .before .before .before .pre) refl
+returns-2 c = c .new2 .ensures ∙ said _ _ _ (sym (c .before .before .a .given .1)) (c .before .before .before .before .by-rows .ensures) _ ∙ unicode _ _ refl
 
 pub to-lower-spec : {M : Type 1} → statement M
 to-lower-spec =
