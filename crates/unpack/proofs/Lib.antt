@@ -1,5 +1,7 @@
 pub mod Flows
+pub mod Rising
 pub mod Same
+pub mod Apart
 pub mod Outcome
 pub mod SameSet
 pub mod Suffice

@@ -1,4 +1,5 @@
--- The list that a table unpacks to, as document 01 says it under "Unpacking". Assumes nothing: these are definitions.
+-- The list that a table unpacks to, as document 01 says it under "Unpacking" and request 4 amends it. Assumes nothing: these
+-- are definitions.
 use Prim.Native.Nat.{ℕ, _-_}
 use mathlib.Core.List.{List, [], _∷_}
 use mathlib.Core.Bool.{cond}
@@ -10,12 +11,27 @@ unfoldable pub kept : List ℕ → List ℕ
 kept [] = []
 kept (b ∷ bs) = cond (leb b 0x10FFFF) (b ∷ kept bs) (kept bs)
 
--- in pairs, as first and last+1, the ranges as flat pairs first, last: equal pairs list nothing, an open last pair ends at
--- 0x10FFFF
-unfoldable pub paired : List ℕ → List ℕ
-paired [] = []
-paired (a ∷ []) = a ∷ (0x10FFFF ∷ [])
-paired (a ∷ (b ∷ bs)) = cond (eqb a b) (paired bs) (a ∷ ((b - 1) ∷ paired bs))
+-- in pairs, as first and last+1: equal pairs list nothing, they are dropped
+unfoldable pub unequal : List ℕ → List ℕ
+unequal [] = []
+unequal (a ∷ []) = a ∷ []
+unequal (a ∷ (b ∷ bs)) = cond (eqb a b) (unequal bs) (a ∷ (b ∷ unequal bs))
+
+-- where the end b of the pair that starts at a equals the start c of the next pair left, the two are one range
+unfoldable pub joinedFrom : ℕ → List ℕ → List ℕ
+joinedFrom a [] = a ∷ []
+joinedFrom a (b ∷ []) = a ∷ (b ∷ [])
+joinedFrom a (b ∷ (c ∷ bs)) = cond (eqb b c) (joinedFrom a bs) (a ∷ (b ∷ joinedFrom c bs))
+
+abbrev pub joined : List ℕ → List ℕ
+joined [] = []
+joined (a ∷ bs) = joinedFrom a bs
+
+-- the ranges as flat pairs first, last; an open last pair ends at 0x10FFFF
+unfoldable pub flat : List ℕ → List ℕ
+flat [] = []
+flat (a ∷ []) = a ∷ (0x10FFFF ∷ [])
+flat (a ∷ (b ∷ bs)) = a ∷ ((b - 1) ∷ flat bs)
 
 abbrev pub list : List ℕ → List ℕ → List ℕ
-list hs os = paired (kept (boundaries hs os))
+list hs os = flat (joined (unequal (kept (boundaries hs os))))

@@ -1,11 +1,11 @@
 // The unpacker: from a skip table to the flat list of its ranges.
 ghost use mathlib.Core.Path.{_≡_};
-ghost use mathlib.Core.Bool.{true, false};
-ghost use Prim.Native.Nat.{ℕ, _+_, _-_, _*_, _≤_, _<_};
-ghost use lib.ListN.{length};
+ghost use mathlib.Core.Bool.{true, false, cond};
+ghost use Prim.Native.Nat.{_+_, _-_, _≤_, _<_};
+ghost use lib.ListN.{length, set};
 ghost use Rattle.sets.specs.Buffers.{over};
 ghost use Rattle.skip.specs.Table.{boundaries};
-ghost use Rattle.unpack.specs.Flow.{closes, opens, firstOf, flow, stepAt, stepRun};
+ghost use Rattle.unpack.specs.Flow.{next, leaves, waits, flow, numberOf, numbers, stepAt, stepRun};
 ghost use Rattle.unpack.specs.Answers.{unpackedRefusal, unpackedNumbers, Unpacks};
 use scalar::Refusal;
 use skip::Checked;
@@ -49,8 +49,8 @@ struct Place {
 
 // The boundary of offset o, at index i of run k, where the sum so far is at.
 fn step(headers: &[u32], n: usize, i: usize, k: usize, at: u32, o: u8) -> Place
-    requires { ⌜ (k < length (now headers)) × (i < 2048) × (at ≤ 2097152 + 255 * i) ⌝ }
-    ensures { λ r. ⌜ (r .at ≡ stepAt n (now (headers .entry)) i k at o) × (r .run ≡ stepRun n (now (headers .entry)) i k) × (r .at ≤ 2097152 + 255 * (i + 1)) ⌝ }
+    requires { ⌜ (k < length (now headers)) × (i < 2048) × (at ≤ 0x10FFFF) ⌝ }
+    ensures { λ r. ⌜ (r .at ≡ stepAt n (now (headers .entry)) i k at o) × (r .run ≡ stepRun n (now (headers .entry)) i k) ⌝ }
 {
     if i + 1 == skip::core::run_end(headers, n, k) {
         return Place {
@@ -64,37 +64,24 @@ fn step(headers: &[u32], n: usize, i: usize, k: usize, at: u32, o: u8) -> Place
     }
 }
 
-// Whether boundary b closes a range that opened at a: equal pairs list nothing.
-fn closes_at(inside: bool, a: u32, b: u32) -> bool
-    ensures { λ r. ⌜ r ≡ closes inside a b ⌝ }
+// Whether the boundary so far, at, is listed at boundary b, if it waits: an equal one cancels it.
+fn leaves_at(waiting: bool, at: u32, b: u32) -> bool
+    ensures { λ r. ⌜ r ≡ leaves waiting at b ⌝ }
 {
-    if !inside {
+    if !waiting {
         return false;
     }
-    if b > MAX {
-        return false;
-    }
-    a != b
+    at != b
 }
 
-// Whether a pair is open after boundary b.
-fn opens_at(inside: bool, b: u32) -> bool
-    ensures { λ r. ⌜ r ≡ opens inside b ⌝ }
+// Whether boundary b waits then: not if it cancelled one.
+fn waits_next(waiting: bool, listed: bool) -> bool
+    ensures { λ r. ⌜ r ≡ waits waiting listed ⌝ }
 {
-    if b <= MAX {
-        return !inside;
+    if waiting {
+        return listed;
     }
-    inside
-}
-
-// Where a pair is open after boundary b.
-fn first_of(a: u32, b: u32) -> u32
-    ensures { λ r. ⌜ r ≡ firstOf a b ⌝ }
-{
-    if b <= MAX {
-        return b;
-    }
-    a
+    true
 }
 
 // The last number before boundary b.
@@ -107,49 +94,45 @@ fn less_one(b: u32) -> u32
     b - 1
 }
 
-// How many numbers the table unpacks to. On the way, a is where a pair is open if inside holds, at the sum so far in run k,
-// and m counts the numbers.
-fn count_numbers(headers: &[u32], offsets: &[u8]) -> usize
-    requires { ⌜ length (now offsets) ≤ 2048 ⌝ }
-    ensures { λ r. ⌜ r ≡ length (flow false 0 (boundaries (now (headers .entry)) (now (offsets .entry)))) ⌝ }
+// Boundary b as number m of the list: firsts and lasts take turns.
+fn number_of(m: usize, b: u32) -> u32
+    ensures { λ r. ⌜ r ≡ numberOf m b ⌝ }
 {
-    let n = offsets.len();
-    let mut inside = false;
-    let mut a: u32 = 0;
-    let mut at: u32 = 0;
-    let mut k: usize = 0;
-    let mut m: usize = 0;
-    let mut i: usize = 0;
-    while i < n {
-        if k >= headers.len() {
-            break;
-        }
-        let s = step(headers, n, i, k, at, offsets[i]);
-        let b = s.at;
-        let close = closes_at(inside, a, b);
-        inside = opens_at(inside, b);
-        a = first_of(a, b);
-        at = b;
-        k = s.run;
-        i += 1;
-        if close {
-            m += 2;
-        }
+    if m % 2 == 1 {
+        return less_one(b);
     }
-    if inside {
-        return m + 2;
+    b
+}
+
+// The place after m, if a number is listed there.
+fn after(m: usize, listed: bool) -> usize
+    requires { ⌜ m < 4096 ⌝ }
+    ensures { λ r. ⌜ r ≡ next listed m ⌝ }
+{
+    if listed {
+        return m + 1;
     }
     m
 }
 
-// Writes them: the same walk, with a store for each number.
-fn write_numbers(headers: &[u32], offsets: &[u8], out: &mut [u32])
-    requires { ⌜ (length (now offsets) ≤ 2048) × (length (flow false 0 (boundaries (now headers) (now offsets))) ≤ length (now out)) ⌝ }
-    ensures { λ _. ⌜ now (out .exit) ≡ over (flow false 0 (boundaries (now (headers .entry)) (now (offsets .entry)))) (now (out .entry)) ⌝ }
+// Stores it.
+fn put(out: &mut [u32], m: usize, listed: bool, number: u32)
+    requires { ⌜ (listed ≡ true → m < length (now out)) ⌝ }
+    ensures { λ _. ⌜ now (out .exit) ≡ cond listed (set (now (out .entry)) m number) (now (out .entry)) ⌝ }
+{
+    if listed {
+        out[m] = number;
+    }
+}
+
+// How many numbers the table unpacks to. On the way, the boundary so far, at, waits to be listed if waiting holds, in run k,
+// and m counts the numbers.
+fn count_numbers(headers: &[u32], offsets: &[u8]) -> usize
+    requires { ⌜ length (now offsets) ≤ 2048 ⌝ }
+    ensures { λ r. ⌜ r ≡ length (numbers 0 (flow false 0 (boundaries (now (headers .entry)) (now (offsets .entry))))) ⌝ }
 {
     let n = offsets.len();
-    let mut inside = false;
-    let mut a: u32 = 0;
+    let mut waiting = false;
     let mut at: u32 = 0;
     let mut k: usize = 0;
     let mut m: usize = 0;
@@ -160,23 +143,51 @@ fn write_numbers(headers: &[u32], offsets: &[u8], out: &mut [u32])
         }
         let s = step(headers, n, i, k, at, offsets[i]);
         let b = s.at;
-        let first = a;
-        let close = closes_at(inside, a, b);
-        inside = opens_at(inside, b);
-        a = first_of(a, b);
+        if b > MAX {
+            break;
+        }
+        let listed = leaves_at(waiting, at, b);
+        m = after(m, listed);
+        waiting = waits_next(waiting, listed);
         at = b;
         k = s.run;
         i += 1;
-        if close {
-            out[m] = first;
-            out[m + 1] = less_one(b);
-            m += 2;
+    }
+    m = after(m, waiting);
+    after(m, m % 2 == 1)
+}
+
+// Writes them: the same walk, with a store for each number.
+fn write_numbers(headers: &[u32], offsets: &[u8], out: &mut [u32])
+    requires { ⌜ (length (now offsets) ≤ 2048) × (length (numbers 0 (flow false 0 (boundaries (now headers) (now offsets)))) ≤ length (now out)) ⌝ }
+    ensures { λ _. ⌜ now (out .exit) ≡ over (numbers 0 (flow false 0 (boundaries (now (headers .entry)) (now (offsets .entry))))) (now (out .entry)) ⌝ }
+{
+    let n = offsets.len();
+    let mut waiting = false;
+    let mut at: u32 = 0;
+    let mut k: usize = 0;
+    let mut m: usize = 0;
+    let mut i: usize = 0;
+    while i < n {
+        if k >= headers.len() {
+            break;
         }
+        let s = step(headers, n, i, k, at, offsets[i]);
+        let b = s.at;
+        if b > MAX {
+            break;
+        }
+        let listed = leaves_at(waiting, at, b);
+        put(out, m, listed, number_of(m, at));
+        m = after(m, listed);
+        waiting = waits_next(waiting, listed);
+        at = b;
+        k = s.run;
+        i += 1;
     }
-    if inside {
-        out[m] = a;
-        out[m + 1] = MAX;
-    }
+    put(out, m, waiting, number_of(m, at));
+    m = after(m, waiting);
+    put(out, m, m % 2 == 1, MAX);
 }
 
 // Unpacks a table to a flat list; refuses 8, then 10. A refusal writes nothing, and a success nothing past what it reports.

@@ -1,7 +1,7 @@
 -- `unpack::count_numbers` meets its contract. The invariant: the numbers counted and those that the rest of the walk lists
--- are all there are, and the boundary so far has its bound. The measure is the offsets left. Assumes nothing.
-use Prim.Native.Nat.{_+_, _*_, _-_, _≤_}
-use mathlib.Core.Path.{_≡_, _∙_, sym, refl, ap}
+-- are all there are, and the boundary so far is at most 0x10FFFF. The measure is the offsets left. Assumes nothing.
+use Prim.Native.Nat.{_+_, _-_, _≤_}
+use mathlib.Core.Path.{_≡_, refl}
 use mathlib.Core.List.{[]}
 use mathlib.Core.Bool.{false}
 use mathlib.Core.Logic.{⊎-elim}
@@ -9,32 +9,40 @@ use native.Mathlib.Omega.{arith}
 use borrow.Author.Needs.{needs}
 use lib.ListN.{length, drop}
 use Rattle.skip.specs.Table.{walk, boundaries}
-use Rattle.unpack.specs.Flow.{flow}
-use Rattle.unpack.proofs.Flows.{close-turn, pass-turn, walk-off, walk-out, flow-in, flow-out}
+use Rattle.unpack.specs.Flow.{when, flow, numbers}
+use Rattle.unpack.proofs.Flows.{off-offsets, off-headers, off-top, turn, next-most, count-on, count-end}
 use Rattle.unpack.proofs.count_numbers.Statement.{statement}
 use Rattle.unpack.proofs.count_numbers.Tie as tie
 
 abbrev Inv-loop : tie.InvT-loop
-Inv-loop headers offsets n inside₀ a₀ at₀ k₀ m₀ i₀ inside a at k m i =
-    (i ≤ n) × (n ≡ length offsets) × (at ≤ 2097152 + 255 * i) × (m ≤ 2 * i)
-    × (m + length (flow inside a (walk (length offsets) i at (drop k headers) (drop i offsets)))
-    ≡ length (flow false 0 (boundaries headers offsets)))
+Inv-loop headers offsets n waiting₀ at₀ k₀ m₀ i₀ waiting at k m i =
+    (i ≤ n) × (n ≡ length offsets) × (at ≤ 0x10FFFF) × (m ≤ i)
+    × (m + length (numbers m (flow waiting at (walk (length offsets) i at (drop k headers) (drop i offsets))))
+    ≡ length (numbers 0 (flow false 0 (boundaries headers offsets))))
 
 abbrev μ-loop : tie.MeasureT-loop
-μ-loop headers offsets n inside₀ a₀ at₀ k₀ m₀ i₀ inside a at k m i = n - i
+μ-loop headers offsets n waiting₀ at₀ k₀ m₀ i₀ waiting at k m i = n - i
 
--- past the loop the walk is over
+-- past the loop only the waiting boundary is left
 ended : (c : tie.Left-loop Inv-loop μ-loop)
-    → walk (length (c .before .before .before .before .args .offsets .now)) (c .before .loop .i) (c .before .loop .at)
+    → flow (c .before .loop .waiting) (c .before .loop .at)
+    (walk (length (c .before .before .before .before .args .offsets .now)) (c .before .loop .i) (c .before .loop .at)
     (drop (c .before .loop .k) (c .before .before .before .before .args .headers .now))
-    (drop (c .before .loop .i) (c .before .before .before .before .args .offsets .now)) ≡ []
+    (drop (c .before .loop .i) (c .before .before .before .before .args .offsets .now)))
+    ≡ when (c .before .loop .waiting) (c .before .loop .at) []
 ended c =
     let hs = c .before .before .before .before .args .headers .now in
     let os = c .before .before .before .before .args .offsets .now in
     let l = c .before .loop in
     ⊎-elim
-    (λ w. walk-off (length os) hs os (l .i) (l .k) (l .at) (w .left))
-    (λ w. walk-out (length os) hs os (l .i) (l .k) (l .at) (w .1 .taken))
+    (λ w. off-offsets (length os) hs os (l .i) (l .k) (l .at) (l .waiting) (w .left))
+    (λ v.
+    ⊎-elim
+    (λ w. off-headers (length os) hs os (l .i) (l .k) (l .at) (l .waiting) (w .1 .taken))
+    (λ w.
+    off-top (length os) hs os (l .i) (l .k) (l .at) (w .1 .left) (omega arith) (l .waiting) (w .3 .result .at) (w .3 .ensures .0)
+    (w .4 .taken))
+    v)
     (c .loop-test .came)
 
 loop-holds : tie.Need-loop-holds Inv-loop μ-loop
@@ -46,31 +54,26 @@ shared-slice-read-step c = search needs
 step-requires : tie.Need-step-requires Inv-loop μ-loop
 step-requires c κs = (c .before .if1 .left, omega (arith, c .before .before .before .before .before .before .pre), omega arith)
 
-closes-at-requires : tie.Need-closes-at-requires Inv-loop μ-loop
-closes-at-requires c κs = search needs
+leaves-at-requires : tie.Need-leaves-at-requires Inv-loop μ-loop
+leaves-at-requires c κs = search needs
 
-opens-at-requires : tie.Need-opens-at-requires Inv-loop μ-loop
-opens-at-requires c κs = search needs
+after-requires : tie.Need-after-requires Inv-loop μ-loop
+after-requires c κs = omega (arith, c .before .before .before .before .before .before .before .before .before .pre)
 
-first-of-requires : tie.Need-first-of-requires Inv-loop μ-loop
-first-of-requires c κs = search needs
+waits-next-requires : tie.Need-waits-next-requires Inv-loop μ-loop
+waits-next-requires c κs = search needs
 
 add-i : tie.Need-add-i Inv-loop μ-loop
 add-i c = search needs
-
-add-m : tie.Need-add-m Inv-loop μ-loop
-add-m c =
-    let stepped = c .before .before .before .before in
-    omega (arith, stepped .before .before .before .before .before .before .before .pre)
 
 loop-less : tie.Need-loop-less Inv-loop μ-loop
 loop-less c = search needs
 
 loop-again : tie.Need-loop-again Inv-loop μ-loop
 loop-again c =
-    let first = c .before .first-of in
-    let opened = c .before .before .opens-at in
-    let closing = c .before .before .before .closes-at in
+    let counted = c .before .after in
+    let listed = c .before .before .leaves-at in
+    let low = c .before .before .before .if2 .left in
     let stepped = c .before .before .before .before in
     let s = stepped .step in
     let l = stepped .before .before .before .before .loop in
@@ -78,43 +81,29 @@ loop-again c =
     let hs = args .headers .now in
     let os = args .offsets .now in
     let t =
-    close-turn (length os) hs os (l .i) (l .k) (l .at) (stepped .before .before .if1 .left) (omega arith) (l .inside) (l .a)
-    (s .result .at) (s .result .run) (opened .result) (first .result) (s .ensures .0) (s .ensures .1) (opened .ensures)
-    (first .ensures) (sym (closing .ensures) ∙ c .if2 .taken) in
-    (search needs, search needs, s .ensures .2, search needs, omega (arith, ap length t, l .inv .4))
+    turn (length os) hs os (l .i) (l .k) (l .at) (stepped .before .before .if1 .left) (omega arith) (l .waiting) (s .result .at)
+    (s .ensures .0) (s .result .run) (s .ensures .1) low (listed .result) (c .waits-next .result) (listed .ensures) (c .waits-next .ensures) in (
+      search needs,
+      search needs,
+      low,
+      omega (arith, next-most (l .m) (counted .result) (listed .result) (counted .ensures)),
+      count-on _ (l .m) (counted .result) _ (listed .result) _ _ t (counted .ensures) (l .inv .4),
+    )
 
-loop-less-2 : tie.Need-loop-less-2 Inv-loop μ-loop
-loop-less-2 c = search needs
+after-requires-2 : tie.Need-after-requires-2 Inv-loop μ-loop
+after-requires-2 c κs = omega (arith, c .before .before .before .before .pre)
 
-loop-again-2 : tie.Need-loop-again-2 Inv-loop μ-loop
-loop-again-2 c =
-    let first = c .before .first-of in
-    let opened = c .before .before .opens-at in
-    let closing = c .before .before .before .closes-at in
-    let stepped = c .before .before .before .before in
-    let s = stepped .step in
-    let l = stepped .before .before .before .before .loop in
-    let args = stepped .before .before .before .before .before .before .before .args in
-    let hs = args .headers .now in
-    let os = args .offsets .now in
-    let t =
-    pass-turn (length os) hs os (l .i) (l .k) (l .at) (stepped .before .before .if1 .left) (omega arith) (l .inside) (l .a)
-    (s .result .at) (s .result .run) (opened .result) (first .result) (s .ensures .0) (s .ensures .1) (opened .ensures)
-    (first .ensures) (sym (closing .ensures) ∙ c .if2 .left) in
-    (search needs, search needs, s .ensures .2, search needs, omega (arith, ap length t, l .inv .4))
-
-add-result : tie.Need-add-result Inv-loop μ-loop
-add-result c = omega (arith, c .before .before .before .before .before .pre)
+after-requires-3 : tie.Need-after-requires-3 Inv-loop μ-loop
+after-requires-3 c κs =
+    let l = c .before .before .loop in
+    omega (arith, next-most (l .m) (c .after2 .result) (l .waiting) (c .after2 .ensures), c .before .before .before .before .before .pre)
 
 returns : tie.Need-returns Inv-loop μ-loop
 returns c =
-    let l = c .before .before .loop in
-    omega (arith, ap length (flow-in (l .inside) (l .a) _ (ended (c .before)) (c .if3 .taken)), l .inv .4)
-
-returns-2 : tie.Need-returns-2 Inv-loop μ-loop
-returns-2 c =
-    let l = c .before .before .loop in
-    omega (arith, ap length (flow-out (l .inside) (l .a) _ (ended (c .before)) (c .if3 .left)), l .inv .4)
+    let l = c .before .before .before .loop in
+    let m = c .before .after2 in
+    count-end _ (m .result) (c .after3 .result) (c .after3 .ensures)
+    (count-on _ (l .m) (m .result) _ (l .waiting) _ _ (ended (c .before .before)) (m .ensures) (l .inv .4))
 
 pub count-numbers-spec : {M : Type 1} → statement M
 count-numbers-spec =
@@ -125,15 +114,12 @@ count-numbers-spec =
     loop-holds
     shared-slice-read-step
     step-requires
-    closes-at-requires
-    opens-at-requires
-    first-of-requires
+    leaves-at-requires
+    after-requires
+    waits-next-requires
     add-i
-    add-m
     loop-less
     loop-again
-    loop-less-2
-    loop-again-2
-    add-result
-    returns
-    returns-2)
+    after-requires-2
+    after-requires-3
+    returns)

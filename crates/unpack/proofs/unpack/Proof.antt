@@ -6,12 +6,11 @@ use mathlib.Core.List.{List}
 use borrow.Author.Needs.{needs}
 use lib.ListN.{length}
 use Rattle.sets.proofs.Decide.{and-right}
-use Rattle.skip.specs.Table.{boundaries}
 use Rattle.skip.specs.Rules.{sized, W1, W2, W3, W4, W5, broken}
 use Rattle.skip.specs.Answers.{checkRefusal}
 use Rattle.skip.proofs.Answers.{accepted-rules}
 use Rattle.skip.proofs.Lowest5.{all, size-high}
-use Rattle.unpack.proofs.Same.{flow-is}
+use Rattle.unpack.proofs.Same.{numbers-are}
 use Rattle.unpack.proofs.Outcome.{refused-table, refused-short, done}
 use Rattle.unpack.proofs.unpack.Statement.{statement}
 use Rattle.unpack.proofs.unpack.Tie as tie
@@ -58,7 +57,7 @@ returns-2 : tie.Need-returns-2
 returns-2 c =
     let told = c .before .before in
     let args = told .before .before .before .before .before .before .args in
-    let need = c .before .count-numbers .ensures ∙ ap length (flow-is (boundaries (args .headers .now) (args .offsets .now))) in
+    let need = c .before .count-numbers .ensures ∙ ap length (numbers-are (args .headers .now) (args .offsets .now) (accepted told)) in
     rw need (refused-short _ _ _ (accepted told) (rw need at (c .if1 .taken)))
 
 write-numbers-requires : tie.Need-write-numbers-requires
@@ -73,7 +72,7 @@ returns-3 c =
     let wrote = c .before .before in
     let told = wrote .before .before .before .before in
     let args = told .before .before .before .before .before .before .args in
-    let same = flow-is (boundaries (args .headers .now) (args .offsets .now)) in
+    let same = numbers-are (args .headers .now) (args .offsets .now) (accepted told) in
     let need = wrote .before .before .before .count-numbers .ensures ∙ ap length same in
     rw (need, rw same at (wrote .write-numbers .ensures)) (done _ _ _ (accepted told) (rw need at (wrote .before .before .if1 .left)))
 

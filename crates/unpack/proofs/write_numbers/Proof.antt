@@ -1,93 +1,72 @@
 -- `unpack::write_numbers` meets its contract. The invariant: the buffer is the first m of the numbers to be written, then
 -- what it was, and the numbers from m on are those that the rest of the walk lists. The measure is the offsets left.
 -- Assumes nothing.
-use Prim.Native.Nat.{ℕ, _+_, _*_, _-_, _≤_}
-use mathlib.Core.Path.{_≡_, _∙_, sym, refl, ap}
-use mathlib.Core.List.{List, [], _∷_, _++_}
+use Prim.Native.Nat.{ℕ, _-_, _≤_}
+use mathlib.Core.Path.{_≡_, refl}
+use mathlib.Core.List.{List, []}
 use mathlib.Core.Bool.{false}
 use mathlib.Core.Logic.{⊎-elim}
 use native.Mathlib.Omega.{arith}
 use borrow.Author.Needs.{needs}
-use lib.ListN.{length, drop, take, length-set, length-drop}
+use lib.ListN.{length, drop}
 use Rattle.skip.specs.Table.{walk, boundaries}
-use Rattle.pack.proofs.Store.{whole}
-use Rattle.unpack.specs.Flow.{flow}
-use Rattle.unpack.proofs.Flows.{close-turn, pass-turn, walk-off, walk-out, flow-in, flow-out, inside-two, put-two, on-two}
+use Rattle.unpack.specs.Flow.{when, flow, numbers}
+use Rattle.unpack.proofs.Flows.{off-offsets, off-headers, off-top, turn, next-most, Written, same-size, all-written, next-room, next-store, last-room, last-store}
 use Rattle.unpack.proofs.write_numbers.Statement.{statement}
 use Rattle.unpack.proofs.write_numbers.Tie as tie
 
 -- what is to be written
 abbrev target : List ℕ → List ℕ → List ℕ
-target hs os = flow false 0 (boundaries hs os)
-
--- nothing is left to write
-shut : (t d : List ℕ) (m : ℕ) → m ≤ length t → drop m t ≡ [] → take m t ++ drop m d ≡ t ++ drop (length t) d
-shut t d m l e = whole t d m (omega (arith, sym (length-drop m t) ∙ ap length e))
+target hs os = numbers 0 (flow false 0 (boundaries hs os))
 
 abbrev Inv-loop : tie.InvT-loop
-Inv-loop headers offsets out₀ n inside₀ a₀ at₀ k₀ m₀ i₀ out inside a at k m i =
-    (i ≤ n) × (n ≡ length offsets) × (at ≤ 2097152 + 255 * i) × (m ≤ 2 * i) × (length out ≡ length out₀)
-    × (out ≡ take m (target headers offsets) ++ drop m out₀)
-    × (drop m (target headers offsets) ≡ flow inside a (walk (length offsets) i at (drop k headers) (drop i offsets)))
-    × (m ≤ length (target headers offsets))
+Inv-loop headers offsets out₀ n waiting₀ at₀ k₀ m₀ i₀ out waiting at k m i =
+    (i ≤ n) × (n ≡ length offsets) × (at ≤ 0x10FFFF) × (m ≤ i)
+    × Written (target headers offsets) out₀ out m
+    (numbers m (flow waiting at (walk (length offsets) i at (drop k headers) (drop i offsets))))
 
 abbrev μ-loop : tie.MeasureT-loop
-μ-loop headers offsets out₀ n inside₀ a₀ at₀ k₀ m₀ i₀ out inside a at k m i = n - i
+μ-loop headers offsets out₀ n waiting₀ at₀ k₀ m₀ i₀ out waiting at k m i = n - i
 
--- past the loop the walk is over
+-- past the loop only the waiting boundary is left
 ended : (c : tie.Left-loop Inv-loop μ-loop)
-    → walk (length (c .before .before .before .before .before .args .offsets .now)) (c .before .loop .i) (c .before .loop .at)
+    → flow (c .before .loop .waiting) (c .before .loop .at)
+    (walk (length (c .before .before .before .before .before .args .offsets .now)) (c .before .loop .i) (c .before .loop .at)
     (drop (c .before .loop .k) (c .before .before .before .before .before .args .headers .now))
-    (drop (c .before .loop .i) (c .before .before .before .before .before .args .offsets .now)) ≡ []
+    (drop (c .before .loop .i) (c .before .before .before .before .before .args .offsets .now)))
+    ≡ when (c .before .loop .waiting) (c .before .loop .at) []
 ended c =
     let hs = c .before .before .before .before .before .args .headers .now in
     let os = c .before .before .before .before .before .args .offsets .now in
     let l = c .before .loop in
     ⊎-elim
-    (λ w. walk-off (length os) hs os (l .i) (l .k) (l .at) (w .left))
-    (λ w. walk-out (length os) hs os (l .i) (l .k) (l .at) (w .1 .taken))
+    (λ w. off-offsets (length os) hs os (l .i) (l .k) (l .at) (l .waiting) (w .left))
+    (λ v.
+    ⊎-elim
+    (λ w. off-headers (length os) hs os (l .i) (l .k) (l .at) (l .waiting) (w .1 .taken))
+    (λ w.
+    off-top (length os) hs os (l .i) (l .k) (l .at) (w .1 .left) (omega arith) (l .waiting) (w .3 .result .at) (w .3 .ensures .0)
+    (w .4 .taken))
+    v)
     (c .loop-test .came)
 
--- a range is closed: its two numbers are the next to be written
-closed : (c : tie.Then2 Inv-loop μ-loop)
-    → drop (c .before .before .before .before .before .before .before .before .loop .m)
-    (target (c .before .before .before .before .before .before .before .before .before .before .before .before .args .headers .now)
-    (c .before .before .before .before .before .before .before .before .before .before .before .before .args .offsets .now))
-    ≡ c .before .before .before .before .before .before .before .before .loop .a
-    ∷ ((c .before .before .before .before .step .result .at - 1)
-    ∷ flow (c .before .before .opens-at .result) (c .before .first-of .result)
-    (walk (length (c .before .before .before .before .before .before .before .before .before .before .before .before .args .offsets .now))
-    (c .before .before .before .before .before .before .before .before .loop .i + 1) (c .before .before .before .before .step .result .at)
-    (drop (c .before .before .before .before .step .result .run)
-    (c .before .before .before .before .before .before .before .before .before .before .before .before .args .headers .now))
-    (drop (c .before .before .before .before .before .before .before .before .loop .i + 1)
-    (c .before .before .before .before .before .before .before .before .before .before .before .before .args .offsets .now))))
-closed c =
-    let first = c .before .first-of in
-    let opened = c .before .before .opens-at in
-    let closing = c .before .before .before .closes-at in
-    let stepped = c .before .before .before .before in
-    let s = stepped .step in
-    let l = stepped .before .before .before .before .loop in
-    let args = stepped .before .before .before .before .before .before .before .before .args in
-    let hs = args .headers .now in
-    let os = args .offsets .now in
-    l .inv .6
-    ∙ close-turn (length os) hs os (l .i) (l .k) (l .at) (stepped .before .before .if1 .left) (omega arith) (l .inside) (l .a)
-    (s .result .at) (s .result .run) (opened .result) (first .result) (s .ensures .0) (s .ensures .1) (opened .ensures)
-    (first .ensures) (sym (closing .ensures) ∙ c .if2 .taken)
-
--- an open last pair: its two numbers are all that is left
-last : (c : tie.Then3 Inv-loop μ-loop)
-    → drop (c .before .before .loop .m)
-    (target (c .before .before .before .before .before .before .args .headers .now) (c .before .before .before .before .before .before .args .offsets .now))
-    ≡ c .before .before .loop .a ∷ (0x10FFFF ∷ [])
-last c =
-    let l = c .before .before .loop in
-    l .inv .6 ∙ flow-in (l .inside) (l .a) _ (ended (c .before)) (c .if3 .taken)
+-- and when it is stored, no boundary is left
+stored : (c : tie.After-after2 Inv-loop μ-loop)
+    → Written
+    (target (c .before .before .before .before .before .before .before .before .before .before .before .args .headers .now)
+    (c .before .before .before .before .before .before .before .before .before .before .before .args .offsets .now))
+    (c .before .before .before .before .before .before .before .before .before .before .before .args .out .now)
+    (c .before .before .before .put2 .last .0) (c .after2 .result) (numbers (c .after2 .result) [])
+stored c =
+    let wrote = c .before .before .before in
+    let left = wrote .before .before .before in
+    let l = left .before .loop in
+    let start = left .before .before .before .before .before in
+    next-store _ (start .args .out .now) (start .pre .1) (l .out) (l .m) _ (l .waiting) (l .at) _ _ (ended left)
+    (wrote .before .number-of2 .ensures) (l .inv .4) _ (c .after2 .result) (wrote .put2 .ensures) (c .after2 .ensures)
 
 loop-holds : tie.Need-loop-holds Inv-loop μ-loop
-loop-holds c = (search needs, refl, search needs, search needs, refl, refl, refl, search needs)
+loop-holds c = (search needs, refl, search needs, search needs, record { front = refl; due = refl; within = search needs })
 
 shared-slice-read-step : tie.Need-shared-slice-read-step Inv-loop μ-loop
 shared-slice-read-step c = search needs
@@ -95,134 +74,100 @@ shared-slice-read-step c = search needs
 step-requires : tie.Need-step-requires Inv-loop μ-loop
 step-requires c κs = (c .before .if1 .left, omega (arith, c .before .before .before .before .before .before .before .pre .0), omega arith)
 
-closes-at-requires : tie.Need-closes-at-requires Inv-loop μ-loop
-closes-at-requires c κs = search needs
+leaves-at-requires : tie.Need-leaves-at-requires Inv-loop μ-loop
+leaves-at-requires c κs = search needs
 
-opens-at-requires : tie.Need-opens-at-requires Inv-loop μ-loop
-opens-at-requires c κs = search needs
+number-of-requires : tie.Need-number-of-requires Inv-loop μ-loop
+number-of-requires c κs = search needs
 
-first-of-requires : tie.Need-first-of-requires Inv-loop μ-loop
-first-of-requires c κs = search needs
+put-requires : tie.Need-put-requires Inv-loop μ-loop
+put-requires c κs =
+    let listed = c .before .before .leaves-at in
+    let low = c .before .before .before .if2 .left in
+    let stepped = c .before .before .before .before in
+    let s = stepped .step in
+    let l = stepped .before .before .before .before .loop in
+    let start = stepped .before .before .before .before .before .before .before .before in
+    let hs = start .args .headers .now in
+    let os = start .args .offsets .now in
+    next-room _ (start .args .out .now) (start .pre .1) (l .out) (l .m) _ (listed .result) (l .at) _ _
+    (turn (length os) hs os (l .i) (l .k) (l .at) (stepped .before .before .if1 .left) (omega arith) (l .waiting) (s .result .at)
+    (s .ensures .0) (s .result .run) (s .ensures .1) low (listed .result) _ (listed .ensures) refl)
+    (c .number-of .ensures) (l .inv .4)
+
+after-requires : tie.Need-after-requires Inv-loop μ-loop
+after-requires c κs =
+    let looped = c .before .before .before .before .before .before .before .before .before .before .before in
+    omega (arith, looped .before .before .before .before .pre .0)
+
+waits-next-requires : tie.Need-waits-next-requires Inv-loop μ-loop
+waits-next-requires c κs = search needs
 
 add-i : tie.Need-add-i Inv-loop μ-loop
 add-i c = search needs
-
-mul-out : tie.Need-mul-out Inv-loop μ-loop
-mul-out c = search needs
-
-slice-write-out : tie.Need-slice-write-out Inv-loop μ-loop
-slice-write-out c =
-    let looped = c .before .before .before .before .before .before .before .before in
-    let start = looped .before .before .before .before in
-    omega (arith, start .pre .1, inside-two _ (start .args .out .now) (looped .loop .m) _ _ _ (closed c) (start .pre .1))
-
-less-one-requires : tie.Need-less-one-requires Inv-loop μ-loop
-less-one-requires c κs = search needs
-
-add-out : tie.Need-add-out Inv-loop μ-loop
-add-out c =
-    let looped = c .before .before .before .before .before .before .before .before .before in
-    omega (arith, looped .before .before .before .before .pre .0)
-
-mul-out-2 : tie.Need-mul-out-2 Inv-loop μ-loop
-mul-out-2 c = search needs
-
-slice-write-out-2 : tie.Need-slice-write-out-2 Inv-loop μ-loop
-slice-write-out-2 c =
-    let looped = c .before .before .before .before .before .before .before .before .before in
-    let start = looped .before .before .before .before in
-    let fits = inside-two _ (start .args .out .now) (looped .loop .m) _ _ _ (closed (c .before)) (start .pre .1) in
-    simp length-set (omega (arith, start .pre .1, fits))
-
-add-m : tie.Need-add-m Inv-loop μ-loop
-add-m c =
-    let looped = c .before .before .before .before .before .before .before .before .before in
-    omega (arith, looped .before .before .before .before .pre .0)
 
 loop-less : tie.Need-loop-less Inv-loop μ-loop
 loop-less c = search needs
 
 loop-again : tie.Need-loop-again Inv-loop μ-loop
 loop-again c =
-    let stepped = c .before .before .before .before .before in
-    let looped = stepped .before .before .before .before in
-    let l = looped .loop in
-    let start = looped .before .before .before .before in
-    let old = start .args .out .now in
-    let room = start .pre .1 in
-    let t = closed (c .before) in (
-      search needs,
-      search needs,
-      stepped .step .ensures .2,
-      search needs,
-      simp length-set (l .inv .4),
-      rw (l .inv .5, c .less-one .ensures) (put-two _ old (l .m) _ _ _ t room),
-      on-two _ old (l .m) _ _ _ t room,
-      omega (arith, inside-two (target (start .args .headers .now) (start .args .offsets .now)) old (l .m) _ _ _ t room),
-    )
-
-loop-less-2 : tie.Need-loop-less-2 Inv-loop μ-loop
-loop-less-2 c = search needs
-
-loop-again-2 : tie.Need-loop-again-2 Inv-loop μ-loop
-loop-again-2 c =
-    let first = c .before .first-of in
-    let opened = c .before .before .opens-at in
-    let closing = c .before .before .before .closes-at in
-    let stepped = c .before .before .before .before in
+    let counted = c .before .after in
+    let wrote = c .before .before .before .before in
+    let numbered = wrote .before in
+    let listed = numbered .before .before .leaves-at in
+    let low = numbered .before .before .before .if2 .left in
+    let stepped = numbered .before .before .before .before in
     let s = stepped .step in
     let l = stepped .before .before .before .before .loop in
-    let args = stepped .before .before .before .before .before .before .before .before .args in
-    let hs = args .headers .now in
-    let os = args .offsets .now in
+    let start = stepped .before .before .before .before .before .before .before .before in
+    let hs = start .args .headers .now in
+    let os = start .args .offsets .now in
     let t =
-    pass-turn (length os) hs os (l .i) (l .k) (l .at) (stepped .before .before .if1 .left) (omega arith) (l .inside) (l .a)
-    (s .result .at) (s .result .run) (opened .result) (first .result) (s .ensures .0) (s .ensures .1) (opened .ensures)
-    (first .ensures) (sym (closing .ensures) ∙ c .if2 .left) in
-    (search needs, search needs, s .ensures .2, search needs, l .inv .4, l .inv .5, l .inv .6 ∙ t, l .inv .7)
+    turn (length os) hs os (l .i) (l .k) (l .at) (stepped .before .before .if1 .left) (omega arith) (l .waiting) (s .result .at)
+    (s .ensures .0) (s .result .run) (s .ensures .1) low (listed .result) (c .waits-next .result) (listed .ensures) (c .waits-next .ensures) in (
+      search needs,
+      search needs,
+      low,
+      omega (arith, next-most (l .m) (counted .result) (listed .result) (counted .ensures)),
+      next-store _ (start .args .out .now) (start .pre .1) (l .out) (l .m) _ (listed .result) (l .at) _ _ t (numbered .number-of .ensures)
+          (l .inv .4) _ (counted .result) (wrote .put .ensures) (counted .ensures),
+    )
 
-mul-out-3 : tie.Need-mul-out-3 Inv-loop μ-loop
-mul-out-3 c = search needs
+number-of-requires-2 : tie.Need-number-of-requires-2 Inv-loop μ-loop
+number-of-requires-2 c κs = search needs
 
-slice-write-out-3 : tie.Need-slice-write-out-3 Inv-loop μ-loop
-slice-write-out-3 c =
-    let start = c .before .before .before .before .before .before in
-    omega (arith, start .pre .1, inside-two _ (start .args .out .now) (c .before .before .loop .m) _ _ _ (last c) (start .pre .1))
+put-requires-2 : tie.Need-put-requires-2 Inv-loop μ-loop
+put-requires-2 c κs =
+    let left = c .before .before in
+    let l = left .before .loop in
+    let start = left .before .before .before .before .before in
+    next-room _ (start .args .out .now) (start .pre .1) (l .out) (l .m) _ (l .waiting) (l .at) _ _ (ended left) (c .number-of2 .ensures) (l .inv .4)
 
-add-out-2 : tie.Need-add-out-2 Inv-loop μ-loop
-add-out-2 c = omega (arith, c .before .before .before .before .before .before .pre .0)
+after-requires-2 : tie.Need-after-requires-2 Inv-loop μ-loop
+after-requires-2 c κs =
+    let left = c .before .before .before .before .before in
+    omega (arith, left .before .before .before .before .before .pre .0)
 
-mul-out-4 : tie.Need-mul-out-4 Inv-loop μ-loop
-mul-out-4 c = search needs
-
-slice-write-out-4 : tie.Need-slice-write-out-4 Inv-loop μ-loop
-slice-write-out-4 c =
-    let start = c .before .before .before .before .before .before in
-    let fits = inside-two _ (start .args .out .now) (c .before .before .loop .m) _ _ _ (last c) (start .pre .1) in
-    simp length-set (omega (arith, start .pre .1, fits))
+put-requires-3 : tie.Need-put-requires-3 Inv-loop μ-loop
+put-requires-3 c κs =
+    let start = c .before .before .before .before .before .before .before .before .before .before .before .before in
+    last-room _ (start .args .out .now) (start .pre .1) _ (c .before .after2 .result) (stored (c .before))
 
 same-length : tie.Need-same-length Inv-loop μ-loop
-same-length c = simp length-set (c .before .before .loop .inv .4)
+same-length c =
+    let wrote = c .before .before in
+    let counted = wrote .before .before in
+    let start = counted .before .before .before .before .before .before .before .before .before .before .before in
+    same-size _ (start .args .out .now) (start .pre .1) _ _ _
+    (last-store _ (start .args .out .now) (start .pre .1) _ (counted .after2 .result) (stored counted) _ (wrote .put3 .ensures))
 
 returns : tie.Need-returns Inv-loop μ-loop
 returns c =
-    let start = c .before .before .before .before .before .before in
-    let t = target (start .args .headers .now) (start .args .offsets .now) in
-    let old = start .args .out .now in
-    let l = c .before .before .loop in
-    let all : length t ≡ l .m + 2 = omega (arith, sym (length-drop (l .m) t) ∙ ap length (last c)) in
-    rw (l .inv .5) (put-two t old (l .m) _ _ _ (last c) (start .pre .1) ∙ whole t old (l .m + 2) all)
-
-same-length-2 : tie.Need-same-length-2 Inv-loop μ-loop
-same-length-2 c = c .before .before .loop .inv .4
-
-returns-2 : tie.Need-returns-2 Inv-loop μ-loop
-returns-2 c =
-    let start = c .before .before .before .before .before .before in
-    let t = target (start .args .headers .now) (start .args .offsets .now) in
-    let l = c .before .before .loop in
-    let none = l .inv .6 ∙ flow-out (l .inside) (l .a) _ (ended (c .before)) (c .if3 .left) in
-    l .inv .5 ∙ shut t (start .args .out .now) (l .m) (l .inv .7) none
+    let wrote = c .before .before in
+    let counted = wrote .before .before in
+    let start = counted .before .before .before .before .before .before .before .before .before .before .before in
+    all-written _ (start .args .out .now) (start .pre .1) _ _
+    (last-store _ (start .args .out .now) (start .pre .1) _ (counted .after2 .result) (stored counted) _ (wrote .put3 .ensures))
 
 pub write-numbers-spec : {M : Type 1} → statement M
 write-numbers-spec =
@@ -233,27 +178,17 @@ write-numbers-spec =
     loop-holds
     shared-slice-read-step
     step-requires
-    closes-at-requires
-    opens-at-requires
-    first-of-requires
+    leaves-at-requires
+    number-of-requires
+    put-requires
+    after-requires
+    waits-next-requires
     add-i
-    mul-out
-    slice-write-out
-    less-one-requires
-    add-out
-    mul-out-2
-    slice-write-out-2
-    add-m
     loop-less
     loop-again
-    loop-less-2
-    loop-again-2
-    mul-out-3
-    slice-write-out-3
-    add-out-2
-    mul-out-4
-    slice-write-out-4
+    number-of-requires-2
+    put-requires-2
+    after-requires-2
+    put-requires-3
     same-length
-    returns
-    same-length-2
-    returns-2)
+    returns)
