@@ -46,7 +46,8 @@ extern "C" {
 #define BECKTRESTLE_OFFSETS_NEEDED(ranges) (2 * (size_t)(ranges) + 1)
 /* How many headers are enough for every list of so many ranges (proved: pack's law headers-suffice). */
 #define BECKTRESTLE_HEADERS_ENOUGH(ranges) (2 * (size_t)(ranges) + 1)
-/* How many numbers are enough to unpack a table of so many offsets (proved: unpack's law numbers-suffice). */
+/* How many numbers are enough to unpack a table of so many offsets, touching ranges being one (proved: unpack's law
+ * numbers-suffice). */
 #define BECKTRESTLE_NUMBERS_ENOUGH(offsets) ((size_t)(offsets) + 1)
 /* How many elements are enough to encode any scalar value. */
 #define BECKTRESTLE_UTF8_ENOUGH 4
@@ -166,7 +167,8 @@ becktrestle_verdict becktrestle_check_table(const uint32_t *headers, size_t head
 becktrestle_sought becktrestle_search_table(const uint32_t *headers, size_t headers_len, const uint8_t *offsets,
                                             size_t offsets_len, uint32_t x);
 
-/* Unpacks a table to the front of out, as first and last of each range, and counts the numbers. Refuses 8, then 10. */
+/* Unpacks a table to the front of out, as first and last of each range, and counts the numbers; ranges that touch are one,
+ * so that pack never refuses the list with 5. Refuses 8, then 10. */
 becktrestle_count becktrestle_unpack(const uint32_t *headers, size_t headers_len, const uint8_t *offsets, size_t offsets_len,
                                      uint32_t *out, size_t out_len);
 

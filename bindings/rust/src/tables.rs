@@ -85,8 +85,8 @@ pub fn pack(list: &[u32], headers: &mut [u32], offsets: &mut [u8]) -> Result<Siz
     Refusal::unless(r.refusal, r.carried, Sizes { headers: r.headers, offsets: r.offsets })
 }
 
-/// Unpacks a table into the front of `out`, as first and last of each range, and says how many numbers it wrote; refuses 8,
-/// then 10, and then writes nothing.
+/// Unpacks a table into the front of `out`, as first and last of each range, and says how many numbers it wrote. Ranges that
+/// touch are one, so that [`pack`] never refuses the list with 5. Refuses 8, then 10, and then writes nothing.
 pub fn unpack(headers: &[u32], offsets: &[u8], out: &mut [u32]) -> Result<usize, Refusal> {
     // SAFETY: as in pack.
     let r = unsafe {

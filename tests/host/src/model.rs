@@ -145,22 +145,38 @@ pub fn search(headers: &[u32], offsets: &[u8], x: u32) -> Result<(bool, usize), 
     Ok((at_most % 2 == 1, read))
 }
 
+/// A table's boundaries up to 0x10FFFF in pairs, as first and last+1, without the equal ones; an open last pair ends at 0x10FFFF.
+fn pairs(headers: &[u32], offsets: &[u8]) -> Vec<(u32, u32)> {
+    let kept: Vec<u32> =
+        boundaries(headers, offsets).into_iter().flatten().filter(|&b| b <= u64::from(LAST)).map(|b| b as u32).collect();
+    kept.chunks(2).map(|pair| (pair[0], *pair.get(1).unwrap_or(&(LAST + 1)))).filter(|(first, end)| first != end).collect()
+}
+
+/// Where a pair's end equals the start of the next one, the two are one.
+fn joined(pairs: &[(u32, u32)]) -> Vec<(u32, u32)> {
+    let mut left: Vec<(u32, u32)> = Vec::new();
+    for &(first, end) in pairs {
+        match left.last_mut() {
+            Some(before) if before.1 == first => before.1 = end,
+            _ => left.push((first, end)),
+        }
+    }
+    left
+}
+
+/// How many pairs of a table that keeps the rules are joined to the one before.
+pub fn joins(headers: &[u32], offsets: &[u8]) -> usize {
+    let pairs = pairs(headers, offsets);
+    pairs.len() - joined(&pairs).len()
+}
+
 pub fn unpack(headers: &[u32], offsets: &[u8], room: usize) -> Result<Vec<u32>, Refused> {
     match lowest_broken(headers, offsets) {
         0 => (),
         rule => return Err((8, rule)),
     }
-    let kept: Vec<u32> =
-        boundaries(headers, offsets).into_iter().flatten().filter(|&b| b <= u64::from(LAST)).map(|b| b as u32).collect();
-    let mut list = Vec::new();
-    for pair in kept.chunks(2) {
-        match *pair {
-            [first, end] if first == end => (),
-            [first, end] => list.extend([first, end - 1]),
-            [first] => list.extend([first, LAST]),
-            _ => unreachable!("chunks of two"),
-        }
-    }
+    let list: Vec<u32> =
+        joined(&pairs(headers, offsets)).into_iter().flat_map(|(first, end)| [first, end - 1]).collect();
     if room < list.len() {
         return Err((10, list.len()));
     }

@@ -16,6 +16,7 @@ const TABLES: usize = 100_000;
 fn main() {
     let mut report = Report::default();
     named(&mut report);
+    touching(&mut report);
     built_in(&mut report);
     random_lists(&mut report);
     random_tables(&mut report);
@@ -121,6 +122,24 @@ fn named(report: &mut Report) {
     let cases = [(0x1C4, false, 0), (0x1C5, true, 1), (0x1F87, false, 7), (0x1F88, true, 1), (0x1FFC, true, 11), (0x1FFD, false, 11)];
     for (x, yes, read) in cases {
         report.check(search_table(&headers, &offsets, x) == Ok((yes, read)), &format!("titlecase {x:x}: {yes}, {read} read"));
+    }
+}
+
+/// Tables with an offset 0 inside a run, where one range ends and the next begins: they unpack to joined ranges, which pack.
+fn touching(report: &mut Report) {
+    let cases: [(&str, &[u32], &[u8], &[u32]); 6] = [
+        ("10 to 14 and 15 to 21", &[0x1F_FFFF], &[10, 5, 0, 7, 0], &[10, 21]),
+        ("an equal pair between them", &[0x1F_FFFF], &[10, 5, 0, 0, 0, 7, 0], &[10, 21]),
+        ("three that touch", &[0x1F_FFFF], &[10, 5, 0, 7, 0, 1, 9, 3, 0], &[10, 22, 32, 34]),
+        ("an equal pair behind a range", &[0x1F_FFFF], &[10, 5, 0, 0, 7, 1, 0], &[10, 14, 22, 22]),
+        ("an end that is a run's sum", &[0x12C, 2 << 21 | 0x1F_FFFF], &[10, 99, 0, 7, 0], &[10, 306]),
+        ("an open last range", &[0x1F_FFFF], &[10, 5, 0, 0], &[10, LAST]),
+    ];
+    for (what, headers, offsets, list) in cases {
+        let unpacked = model::unpack(headers, offsets, list.len()).as_deref() == Ok(list);
+        let same = around(list.len()).all(|room| unpacks_right(headers, offsets, room, false));
+        let packs = check_list(list) == Ok(list.len() / 2) && packs_right(list, 9, 9, false);
+        report.check(unpacked && same && packs, &format!("touching ranges, {what}: joined, and they pack"));
     }
 }
 
@@ -302,8 +321,9 @@ fn damaged_table(random: &mut Random, headers: &mut Vec<u32>, offsets: &mut Vec<
 
 fn random_tables(report: &mut Report) {
     let mut random = Random::new(2026);
-    let [mut checks, mut searches, mut unpacks] = [(); 3].map(|()| Tally::default());
+    let [mut checks, mut searches, mut unpacks, mut listed] = [(); 4].map(|()| Tally::default());
     let mut by_rule = [0; 6];
+    let mut with_joins = 0;
     for _ in 0..TABLES {
         let (mut headers, mut offsets) = a_table(&mut random);
         damaged_table(&mut random, &mut headers, &mut offsets);
@@ -316,7 +336,14 @@ fn random_tables(report: &mut Report) {
             let answer = model::search(&headers, &offsets, x);
             searches.case(|flip| search_table(&headers, &offsets, x) == or_flipped(answer, flip));
         }
-        let need = model::unpack(&headers, &offsets, usize::MAX).map_or(2, |list| list.len());
+        let list = model::unpack(&headers, &offsets, usize::MAX);
+        if let Ok(list) = &list {
+            with_joins += usize::from(model::joins(&headers, &offsets) > 0);
+            let ranges = list.len() / 2;
+            let passes = if ranges > 1023 { Err((4, 0)) } else { Ok(ranges) };
+            listed.case(|flip| check_list(list) == or_flipped(passes, flip));
+        }
+        let need = list.map_or(2, |list| list.len());
         for room in around(need) {
             unpacks.case(|flip| unpacks_right(&headers, &offsets, room, flip));
         }
@@ -324,5 +351,7 @@ fn random_tables(report: &mut Report) {
     report.check(by_rule.iter().all(|&n| n > 100), &format!("tables by the lowest broken rule, 0 for none: {by_rule:?}"));
     report.tallied(&format!("check_table of {TABLES} random and damaged tables"), checks);
     report.tallied("search_table in them", searches);
+    report.check(with_joins > 1000, &format!("tables with ranges that touch: {with_joins}"));
     report.tallied("unpack, every length around each need", unpacks);
+    report.tallied("check_list of the unpacked: 4 or nothing", listed);
 }
