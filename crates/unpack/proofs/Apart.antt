@@ -14,8 +14,10 @@ use Rattle.scalar.specs.declared.refusal.Refusal.{Refusal}
 use Rattle.scalar.specs.declared.refusal.Refusal.the-variants.{TooManyRanges}
 use Rattle.sets.specs.Lists.{ranges, badAt}
 use Rattle.sets.specs.Answers.{listElse}
+use Rattle.sets.specs.Demand.{Listed}
 use Rattle.sets.proofs.Decide.{split, same}
 use Rattle.sets.proofs.Good.{Good}
+use Rattle.sets.proofs.Demand.{listed-exactly}
 use Rattle.sets.proofs.Members.{rising, rising-on}
 use Rattle.skip.specs.Table.{boundaries}
 use Rattle.skip.specs.Rules.{broken}
@@ -118,3 +120,7 @@ module _ (hs os : List ℕ) (accepted : broken hs os ≡ 0) where
   -- with at most 1,023 ranges it passes them all
   pub unpack-good : ranges (list hs os) ≤ 1023 → Good (list hs os)
   unpack-good few = record { even = unpack-apart .0; few = few; fine = omega (arith, unpack-apart .1) }
+
+  -- and is one of the lists of demand 3, in its own words
+  pub unpack-listed : ranges (list hs os) ≤ 1023 → Listed (list hs os)
+  unpack-listed few = listed-exactly (list hs os) .1 (unpack-good few)

@@ -64,7 +64,7 @@ fn step(headers: &[u32], n: usize, i: usize, k: usize, at: u32, o: u8) -> Place
     }
 }
 
-// Whether the boundary so far, at, is listed at boundary b, if it waits: an equal one cancels it.
+// Whether the boundary so far, at, is listed when boundary b comes, if it waits: an equal one cancels it.
 fn leaves_at(waiting: bool, at: u32, b: u32) -> bool
     ensures { λ r. ⌜ r ≡ leaves waiting at b ⌝ }
 {
@@ -74,7 +74,7 @@ fn leaves_at(waiting: bool, at: u32, b: u32) -> bool
     at != b
 }
 
-// Whether boundary b waits then: not if it cancelled one.
+// Whether the one that came waits then: not if it cancelled another.
 fn waits_next(waiting: bool, listed: bool) -> bool
     ensures { λ r. ⌜ r ≡ waits waiting listed ⌝ }
 {
@@ -104,7 +104,7 @@ fn number_of(m: usize, b: u32) -> u32
     b
 }
 
-// The place after m, if a number is listed there.
+// The next place to list a number at, after m if one is listed there.
 fn after(m: usize, listed: bool) -> usize
     requires { ⌜ m < 4096 ⌝ }
     ensures { λ r. ⌜ r ≡ next listed m ⌝ }
@@ -115,7 +115,7 @@ fn after(m: usize, listed: bool) -> usize
     m
 }
 
-// Stores it.
+// Stores a number at place m, if it is listed.
 fn put(out: &mut [u32], m: usize, listed: bool, number: u32)
     requires { ⌜ (listed ≡ true → m < length (now out)) ⌝ }
     ensures { λ _. ⌜ now (out .exit) ≡ cond listed (set (now (out .entry)) m number) (now (out .entry)) ⌝ }
@@ -125,8 +125,8 @@ fn put(out: &mut [u32], m: usize, listed: bool, number: u32)
     }
 }
 
-// How many numbers the table unpacks to. On the way, the boundary so far, at, waits to be listed if waiting holds, in run k,
-// and m counts the numbers.
+// How many numbers the table unpacks to. On the way, at is the boundary so far, in run k; it waits to be listed if waiting
+// holds, and m counts the numbers. The boundaries of an accepted table do not fall, so past 0x10FFFF none is left.
 fn count_numbers(headers: &[u32], offsets: &[u8]) -> usize
     requires { ⌜ length (now offsets) ≤ 2048 ⌝ }
     ensures { λ r. ⌜ r ≡ length (numbers 0 (flow false 0 (boundaries (now (headers .entry)) (now (offsets .entry))))) ⌝ }
