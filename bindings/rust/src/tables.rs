@@ -27,6 +27,11 @@ pub const fn headers_enough(ranges: usize) -> usize {
     2 * ranges + 1
 }
 
+/// How many numbers are enough to unpack every table of so many offsets.
+pub const fn numbers_enough(offsets: usize) -> usize {
+    offsets + 1
+}
+
 /// The lengths of a packed table.
 #[derive(Clone, Copy, Debug, PartialEq, Eq)]
 pub struct Sizes {

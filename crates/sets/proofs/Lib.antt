@@ -4,6 +4,7 @@ pub mod Places
 pub mod Members
 pub mod Pairs
 pub mod Good
+pub mod Unique
 pub mod Answers
 pub mod Demand
 mod Fixed

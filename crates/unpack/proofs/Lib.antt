@@ -6,4 +6,5 @@ pub mod Outcome
 pub mod SameSet
 pub mod Suffice
 pub mod RoundTrip
+pub mod OnePacking
 mod Fixed

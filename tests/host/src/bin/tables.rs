@@ -12,6 +12,7 @@ use reference::data::Data;
 const LAST: u32 = 0x10FFFF;
 const LISTS: usize = 100_000;
 const TABLES: usize = 100_000;
+const PAIRS: usize = 20_000;
 
 fn main() {
     let mut report = Report::default();
@@ -20,6 +21,7 @@ fn main() {
     built_in(&mut report);
     random_lists(&mut report);
     random_tables(&mut report);
+    one_packing(&mut report);
     report.close()
 }
 
@@ -354,4 +356,37 @@ fn random_tables(report: &mut Report) {
     report.check(with_joins > 1000, &format!("tables with ranges that touch: {with_joins}"));
     report.tallied("unpack, every length around each need", unpacks);
     report.tallied("check_list of the unpacked: 4 or nothing", listed);
+}
+
+/// A table of one run with few small offsets, so that two of them often have the same set.
+fn a_small_table(random: &mut Random) -> (Vec<u32>, Vec<u8>) {
+    let offsets = (0..=random.below(7)).map(|_| random.below(3) as u8).collect();
+    (vec![0x1F_FFFF], offsets)
+}
+
+/// The table unpacked and packed again.
+fn repacked(headers: &[u32], offsets: &[u8]) -> (Vec<u32>, Vec<u8>) {
+    let mut list = vec![0; becktrestle::tables::numbers_enough(offsets.len())];
+    let numbers = becktrestle::tables::unpack(headers, offsets, &mut list).expect("an accepted table, with room");
+    let ranges = numbers / 2;
+    let mut h = vec![0; becktrestle::tables::headers_enough(ranges)];
+    let mut o = vec![0; becktrestle::tables::offsets_needed(ranges)];
+    let sizes = becktrestle::tables::pack(&list[..numbers], &mut h, &mut o).expect("a list without touching ranges, with room");
+    (h[..sizes.headers].to_vec(), o[..sizes.offsets].to_vec())
+}
+
+/// Two tables repacked are the same bytes exactly if they agree at every number; past the small ones only the last can differ.
+fn one_packing(report: &mut Report) {
+    let mut random = Random::new(13);
+    let mut tally = Tally::default();
+    let mut agreeing = 0;
+    for _ in 0..PAIRS {
+        let [one, other] = [(); 2].map(|()| a_small_table(&mut random));
+        let yes = |table: &(Vec<u32>, Vec<u8>), x: u32| model::search(&table.0, &table.1, x).expect("an accepted table").0;
+        let agree = (0..32).chain([LAST]).all(|x| yes(&one, x) == yes(&other, x));
+        agreeing += usize::from(agree);
+        tally.case(|flip| (repacked(&one.0, &one.1) == repacked(&other.0, &other.1)) == (agree != flip));
+    }
+    report.check(agreeing > 500 && PAIRS - agreeing > 500, &format!("pairs of small tables with the same set: {agreeing}"));
+    report.tallied(&format!("the same bytes after repacking exactly if the same set, {PAIRS} pairs"), tally);
 }
