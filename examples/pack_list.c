@@ -27,7 +27,7 @@ int main(void) {
     }
 
     for (size_t k = 0; k < sizeof name / sizeof *name; k++) {
-        becktrestle_sought found = becktrestle_search_table(headers, sizes.headers, offsets, sizes.offsets, name[k]);
+        becktrestle_yes_no found = becktrestle_search_table(headers, sizes.headers, offsets, sizes.offsets, name[k]);
         becktrestle_yes_no printable = becktrestle_is_printable(name[k]);
         printf("U+%04X %s, %s\n", (unsigned)name[k], found.yes ? "allowed" : "not allowed",
                printable.yes ? "printable" : "invisible");

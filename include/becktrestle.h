@@ -163,9 +163,13 @@ becktrestle_sizes becktrestle_pack(const uint32_t *list, size_t list_len, uint32
 becktrestle_verdict becktrestle_check_table(const uint32_t *headers, size_t headers_len, const uint8_t *offsets,
                                             size_t offsets_len);
 
-/* Looks x up in a table; x may be a surrogate. Refuses 8, then 1. It checks the table each time. */
-becktrestle_sought becktrestle_search_table(const uint32_t *headers, size_t headers_len, const uint8_t *offsets,
+/* Whether a table holds x; x may be a surrogate. Refuses 8, then 1. It checks the table each time. */
+becktrestle_yes_no becktrestle_search_table(const uint32_t *headers, size_t headers_len, const uint8_t *offsets,
                                             size_t offsets_len, uint32_t x);
+
+/* The same answer and refusals, and how many offsets of x's run were read. */
+becktrestle_sought becktrestle_search_table_counted(const uint32_t *headers, size_t headers_len, const uint8_t *offsets,
+                                                    size_t offsets_len, uint32_t x);
 
 /* Unpacks a table to the front of out, as first and last of each range, and counts the numbers; ranges that touch are one,
  * so that pack never refuses the list with 5. Refuses 8, then 10. */

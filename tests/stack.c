@@ -92,6 +92,9 @@ static void check_table(uint32_t n) {
 static void search_table(uint32_t n) {
     (void)becktrestle_search_table(headers, headers_used, offsets, offsets_used, n);
 }
+static void search_counted(uint32_t n) {
+    (void)becktrestle_search_table_counted(headers, headers_used, offsets, offsets_used, n);
+}
 static void unpack(uint32_t n) {
     (void)becktrestle_unpack(headers, headers_used, offsets, offsets_used - n % 2, out, sizeof out / sizeof *out);
 }
@@ -116,7 +119,7 @@ int main(void) {
     void (*property[])(uint32_t) = {alphabetic, lowercase, uppercase, titlecase, cased, numeric, alphanumeric, whitespace, control};
     void (*mapping[])(uint32_t) = {lower, upper, title};
     void (*other[])(uint32_t) = {check, len8, len16, encode8, encode16};
-    void (*dear[])(uint32_t) = {check_list, search_list, pack, check_table, search_table, unpack};
+    void (*dear[])(uint32_t) = {check_list, search_list, pack, check_table, search_table, search_counted, unpack};
     for (size_t i = 0; i < sizeof property / sizeof *property; i++) {
         properties = larger(properties, DEEP(property[i]));
     }

@@ -8,7 +8,7 @@ const ROUNDS: usize = 9;
 
 pub fn all() {
     println!("\nns for a call on a list or table of so many ranges, best of {ROUNDS} rounds");
-    let columns = ["ranges", "pack", "check", "search", "check_list", "search_list", "unpack"];
+    let columns = ["ranges", "pack", "check", "search", "counted", "check_list", "search_list", "unpack"];
     println!("{}", columns.map(|column| format!("{column:>12}")).concat());
     let data = Data::read();
     let flat = |name: &str| -> Vec<u32> { data.property(name).without_ascii().flat().iter().map(|&n| n as u32).collect() };
@@ -48,6 +48,9 @@ fn one(list: &[u32]) {
     let search = best(|| {
         let _ = black_box(tables::search(black_box(headers), offsets, x));
     });
+    let counted = best(|| {
+        let _ = black_box(tables::search_counted(black_box(headers), offsets, x));
+    });
     let check_list = best(|| {
         let _ = black_box(tables::check_list(black_box(list)));
     });
@@ -57,7 +60,7 @@ fn one(list: &[u32]) {
     let unpack = best(|| {
         let _ = black_box(tables::unpack(black_box(headers), offsets, &mut out));
     });
-    let times = [pack, check, search, check_list, search_list, unpack];
+    let times = [pack, check, search, counted, check_list, search_list, unpack];
     println!("{ranges:12}{}", times.map(|ns| format!("{ns:12.0}")).concat());
 }
 

@@ -69,7 +69,10 @@ static void call(const request *asked, uint32_t n, const lent *a, unsigned char 
         ANSWER(becktrestle_verdict, becktrestle_check_table(words[0], length[0], a[1].slice, a[1].bytes));
         break;
     case ENTRY_search_table:
-        ANSWER(becktrestle_sought, becktrestle_search_table(words[0], length[0], a[1].slice, a[1].bytes, n));
+        ANSWER(becktrestle_yes_no, becktrestle_search_table(words[0], length[0], a[1].slice, a[1].bytes, n));
+        break;
+    case ENTRY_search_table_counted:
+        ANSWER(becktrestle_sought, becktrestle_search_table_counted(words[0], length[0], a[1].slice, a[1].bytes, n));
         break;
     case ENTRY_unpack:
         ANSWER(becktrestle_count, becktrestle_unpack(words[0], length[0], a[1].slice, a[1].bytes, words[2], length[2]));

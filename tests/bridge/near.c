@@ -209,9 +209,14 @@ becktrestle_verdict becktrestle_check_table(const uint32_t *headers, size_t head
     LENDING(becktrestle_verdict, ENTRY_check_table, 0, read_from(headers, 4 * headers_len), read_from(offsets, offsets_len));
 }
 
-becktrestle_sought becktrestle_search_table(const uint32_t *headers, size_t headers_len, const uint8_t *offsets,
+becktrestle_yes_no becktrestle_search_table(const uint32_t *headers, size_t headers_len, const uint8_t *offsets,
                                             size_t offsets_len, uint32_t x) {
-    LENDING(becktrestle_sought, ENTRY_search_table, x, read_from(headers, 4 * headers_len), read_from(offsets, offsets_len));
+    LENDING(becktrestle_yes_no, ENTRY_search_table, x, read_from(headers, 4 * headers_len), read_from(offsets, offsets_len));
+}
+
+becktrestle_sought becktrestle_search_table_counted(const uint32_t *headers, size_t headers_len, const uint8_t *offsets,
+                                                    size_t offsets_len, uint32_t x) {
+    LENDING(becktrestle_sought, ENTRY_search_table_counted, x, read_from(headers, 4 * headers_len), read_from(offsets, offsets_len));
 }
 
 becktrestle_count becktrestle_unpack(const uint32_t *headers, size_t headers_len, const uint8_t *offsets, size_t offsets_len,

@@ -45,6 +45,7 @@ enum entry {
     ENTRY_pack,
     ENTRY_check_table,
     ENTRY_search_table,
+    ENTRY_search_table_counted,
     ENTRY_unpack,
     ENTRIES
 };

@@ -26,7 +26,7 @@ pub struct Count {
     pub count: usize,
 }
 
-/// The answer of a search; where `refusal` is not 0, its number, what it carries, no, and 0.
+/// The answer of a counted search; where `refusal` is not 0, its number, what it carries, no, and 0.
 #[repr(C)]
 #[derive(Clone, Copy, Debug, PartialEq, Eq)]
 pub struct Sought {
@@ -70,7 +70,8 @@ extern "C" {
     pub fn becktrestle_search_list(list: *const u32, list_len: usize, x: u32) -> YesNo;
 
     pub fn becktrestle_check_table(headers: *const u32, headers_len: usize, offsets: *const u8, offsets_len: usize) -> Verdict;
-    pub fn becktrestle_search_table(headers: *const u32, headers_len: usize, offsets: *const u8, offsets_len: usize, x: u32) -> Sought;
+    pub fn becktrestle_search_table(headers: *const u32, headers_len: usize, offsets: *const u8, offsets_len: usize, x: u32) -> YesNo;
+    pub fn becktrestle_search_table_counted(headers: *const u32, headers_len: usize, offsets: *const u8, offsets_len: usize, x: u32) -> Sought;
     pub fn becktrestle_pack(list: *const u32, list_len: usize, headers: *mut u32, headers_len: usize, offsets: *mut u8, offsets_len: usize) -> Sizes;
     pub fn becktrestle_unpack(headers: *const u32, headers_len: usize, offsets: *const u8, offsets_len: usize, out: *mut u32, out_len: usize) -> Count;
 

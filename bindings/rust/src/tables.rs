@@ -8,8 +8,9 @@
 //! let sizes = tables::pack(&list, &mut headers, &mut offsets)?;
 //! let (headers, offsets) = (&headers[..sizes.headers], &offsets[..sizes.offsets]);
 //! tables::check(headers, offsets)?;
-//! assert!(tables::search(headers, offsets, 'q' as u32)?.yes);
-//! assert!(!tables::search(headers, offsets, '_' as u32)?.yes);
+//! assert!(tables::search(headers, offsets, 'q' as u32)?);
+//! assert!(!tables::search(headers, offsets, '_' as u32)?);
+//! assert_eq!(tables::search_counted(headers, offsets, 'q' as u32)?.read, 4);
 //! # Ok::<(), becktrestle::Refusal>(())
 //! ```
 use crate::{ffi, Refusal};
@@ -67,10 +68,18 @@ pub fn check(headers: &[u32], offsets: &[u8]) -> Result<(), Refusal> {
     Refusal::unless(r.refusal, r.carried, ())
 }
 
-/// Looks `x` up in the table; refuses 8, then 1.
-pub fn search(headers: &[u32], offsets: &[u8], x: u32) -> Result<Found, Refusal> {
+/// Whether the table holds `x`; refuses 8, then 1.
+pub fn search(headers: &[u32], offsets: &[u8], x: u32) -> Result<bool, Refusal> {
     // SAFETY: as in check.
     let r = unsafe { ffi::becktrestle_search_table(headers.as_ptr(), headers.len(), offsets.as_ptr(), offsets.len(), x) };
+    Refusal::unless(r.refusal, r.carried, r.yes)
+}
+
+/// The same answer and refusals, with how many offsets of `x`'s run were read.
+pub fn search_counted(headers: &[u32], offsets: &[u8], x: u32) -> Result<Found, Refusal> {
+    // SAFETY: as in check.
+    let r =
+        unsafe { ffi::becktrestle_search_table_counted(headers.as_ptr(), headers.len(), offsets.as_ptr(), offsets.len(), x) };
     Refusal::unless(r.refusal, r.carried, Found { yes: r.yes, read: r.read })
 }
 

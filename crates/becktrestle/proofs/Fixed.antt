@@ -28,6 +28,7 @@ use Rattle.becktrestle.proofs.scalars.becktrestle_is_ascii_uppercase.Re
 use Rattle.becktrestle.proofs.scalars.becktrestle_is_ascii_lowercase.Reads as is-ascii-lowercase
 use Rattle.becktrestle.proofs.tables.becktrestle_check_table.Reads as check-table
 use Rattle.becktrestle.proofs.tables.becktrestle_search_table.Reads as search-table
+use Rattle.becktrestle.proofs.tables.becktrestle_search_table_counted.Reads as search-table-counted
 use Rattle.becktrestle.proofs.unpacking.becktrestle_unpack.Reads as unpack
 
 -- what crosses of equal answers is equal
@@ -118,6 +119,9 @@ becktrestle-check-table-fixed κs a r r′ s s′ p q = crosses-same _ p q (p .p
 
 becktrestle-search-table-fixed : (κs : _) (a : _) (r r′ : _) (s s′ : _) → search-table.Post κs a r s → search-table.Post κs a r′ s′ → r ≡ r′
 becktrestle-search-table-fixed κs a r r′ s s′ p q = crosses-same _ p q (p .promised ∙ sym (q .promised))
+
+becktrestle-search-table-counted-fixed : (κs : _) (a : _) (r r′ : _) (s s′ : _) → search-table-counted.Post κs a r s → search-table-counted.Post κs a r′ s′ → r ≡ r′
+becktrestle-search-table-counted-fixed κs a r r′ s s′ p q = crosses-same _ p q (p .promised ∙ sym (q .promised))
 
 becktrestle-unpack-fixed : (κs : _) (a : _) (r r′ : _) (s s′ : _) → unpack.Post κs a r s → unpack.Post κs a r′ s′ → (r ≡ r′) × (now (s .1 .1 .0) ≡ now (s′ .1 .1 .0))
 becktrestle-unpack-fixed κs a r r′ s s′ p q =

@@ -9,6 +9,7 @@ use native.Mathlib.Omega.{arith}
 use borrow.Author.Tests.{le-ltb}
 use lib.ListN.{length, take}
 use lib.Seq.{take-at}
+use Rattle.scalar.specs.Scalars.{answerYes}
 use Rattle.sets.specs.Boundaries.{member}
 use Rattle.sets.specs.Lists.{ranges, edges, holds}
 use Rattle.sets.specs.Buffers.{over}
@@ -17,10 +18,10 @@ use Rattle.sets.proofs.Members.{count-close}
 use Rattle.sets.proofs.Good.{Good, good-member, edges-length}
 use Rattle.sets.proofs.Demand.{listed-exactly, held-exactly}
 use Rattle.skip.specs.Table.{boundaries, reads}
-use Rattle.skip.specs.Answers.{checks, finds, foundYes}
+use Rattle.skip.specs.Answers.{checks, searches, finds}
 use Rattle.skip.specs.declared.Checked.the-variants as checked
 use Rattle.skip.specs.declared.Found.the-variants as found
-use Rattle.skip.proofs.Answers.{table-good}
+use Rattle.skip.proofs.Answers.{table-good, searches-agree}
 use Rattle.skip_rules.proofs.Stated.{Keeps, accepts-exactly}
 use Rattle.pack.specs.Packing.{headers, offsets}
 use Rattle.pack.specs.Answers.{offsetNeed, headerNeed, packedHeaders, packedOffsets, Packs}
@@ -41,6 +42,11 @@ pub packed-search : (l : List ℕ) → Good l → (x : ℕ) → x ≤ 0x10FFFF
 packed-search l g x h =
     sym (table-good (headers l) (offsets l) found.Refused _ (passes l g)) ∙ rw (le-ltb 0x10FFFF x h, packed-member l g x h) refl
 
+-- and the plain search
+pub packed-yes : (l : List ℕ) → Good l → (x : ℕ) → x ≤ 0x10FFFF → answerYes (searches (headers l) (offsets l) x) ≡ holds l x
+packed-yes l g x h =
+    searches-agree (headers l) (offsets l) x .1 ∙ rw (packed-search l g x h) refl
+
 -- 2n+1 headers always suffice for n ranges
 pub headers-suffice : (l : List ℕ) → Good l → headerNeed l ≤ offsetNeed l
 headers-suffice l g =
@@ -57,13 +63,13 @@ pub record PacksListed (l : List ℕ) (r : Packed) (hs′ os′ : List ℕ) : Ty
   -- it passes W1 to W5: the checker accepts it, and it keeps the rules as the document states them
   pub passes-check : checks (take (packedHeaders r) hs′) (take (packedOffsets r) os′) ≡ checked.Accepted
   pub keeps-rules : Keeps (take (packedHeaders r) hs′) (take (packedOffsets r) os′)
-  -- for every number from 0 to 0x10FFFF the search in it answers
+  -- for every number from 0 to 0x10FFFF the counted search in it answers
   pub finds-listed : (x : ℕ) → x ≤ 0x10FFFF
       → finds (take (packedHeaders r) hs′) (take (packedOffsets r) os′) x
       ≡ found.Answer (holds l x) (reads (take (packedHeaders r) hs′) (take (packedOffsets r) os′) x)
-  -- and says yes exactly if some range of the list holds the number
+  -- and the plain search says yes exactly if some range of the list holds the number
   pub yes-exactly : (x : ℕ) → x ≤ 0x10FFFF
-      → (foundYes (finds (take (packedHeaders r) hs′) (take (packedOffsets r) os′) x) ≡ true) ↔ Held l x
+      → (answerYes (searches (take (packedHeaders r) hs′) (take (packedOffsets r) os′) x) ≡ true) ↔ Held l x
 
 listed-by : (l hs os : List ℕ) (r : Packed) (hs′ os′ : List ℕ) → Good l → r ≡ Done (headerNeed l) (offsetNeed l)
     → hs′ ≡ over (headers l) hs → os′ ≡ over (offsets l) os → PacksListed l r hs′ os′
@@ -78,7 +84,7 @@ listed-by l hs os r hs′ os′ g e eh eo =
       passes-check = rw (th, to) (sym (table-good (headers l) (offsets l) checked.Refused checked.Accepted (passes l g)));
       keeps-rules = rw (th, to) (accepts-exactly (headers l) (offsets l) .0 (passes l g));
       finds-listed = λ x h. rw (th, to) (packed-search l g x h);
-      yes-exactly = λ x h. rw (th, to, packed-search l g x h) (held-exactly x l);
+      yes-exactly = λ x h. rw (th, to, packed-yes l g x h) (held-exactly x l);
     }
 
 -- for every list as in demand 3, and buffers of the document's sizes

@@ -1,17 +1,22 @@
--- What callers' proofs cite of the checker: how its refusal becomes an entry's own, and what an accepted table keeps.
--- Assumes nothing.
+-- What callers' proofs cite of the checker: how its refusal becomes an entry's own, and what an accepted table keeps. And the two
+-- searches agree. Assumes nothing.
 use Prim.Native.Nat.{ℕ}
 use mathlib.Core.Path.{_≡_, refl, _∙_}
 use mathlib.Core.List.{List}
 use mathlib.Core.Bool.{Bool, true, false, cond}
 use native.Mathlib.Omega.{arith}
 use borrow.Author.Tests.{eq-eqb, ne-eqb, eqb-true}
-use lib.Dec.{eqb}
+use lib.Dec.{eqb, ltb}
 use Rattle.scalar.specs.declared.refusal.Refusal.{Refusal}
-use Rattle.skip.specs.Rules.{broken}
-use Rattle.skip.specs.Answers.{tableElse, checks}
 use Rattle.scalar.specs.declared.refusal.Refusal.the-variants as refusal
+use Rattle.scalar.specs.declared.Answer.the-variants as answer
+use Rattle.scalar.specs.Scalars.{answerRefusal, answerYes}
+use Rattle.sets.specs.Boundaries.{member}
+use Rattle.skip.specs.Table.{boundaries, reads}
+use Rattle.skip.specs.Rules.{broken}
+use Rattle.skip.specs.Answers.{tableElse, checks, searches, finds, foundRefusal, foundYes}
 use Rattle.skip.specs.declared.Checked.the-variants as checked
+use Rattle.skip.specs.declared.Found.the-variants as found
 
 refused-by : {A : Type 0} (g : Refusal → A) (good : A) (r s : Refusal) (ok : Bool)
     → checked.Refused r ≡ cond ok checked.Accepted (checked.Refused s) → g r ≡ cond ok good (g s)
@@ -50,3 +55,23 @@ module _ (hs os : List ℕ) where
   pub accepted-as : {A : Type 0} (g : Refusal → A) (a good : A) → checked.Accepted ≡ checks hs os → a ≡ good
       → a ≡ tableElse g hs os good
   accepted-as g a good e p = p ∙ table-good g good (accepted-rules e)
+
+  -- the plain search and the counted one agree: the same refusal, the same answer
+  pub searches-agree : (x : ℕ) → (answerRefusal (searches hs os x) ≡ foundRefusal (finds hs os x)) × (answerYes (searches hs os x) ≡ foundYes (finds hs os x))
+  unfolding tableElse
+  searches-agree x = by-tests (eqb (broken hs os) 0) (ltb 0x10FFFF x)
+    where
+      yes : Bool
+      yes = member (boundaries hs os) x
+
+      rule : Refusal
+      rule = refusal.BrokenRule (broken hs os)
+
+      by-tests : (s t : Bool)
+          → (answerRefusal (cond s (cond t (answer.Refused refusal.AboveMax) (answer.Is yes)) (answer.Refused rule))
+          ≡ foundRefusal (cond s (cond t (found.Refused refusal.AboveMax) (found.Answer yes (reads hs os x))) (found.Refused rule)))
+          × (answerYes (cond s (cond t (answer.Refused refusal.AboveMax) (answer.Is yes)) (answer.Refused rule))
+          ≡ foundYes (cond s (cond t (found.Refused refusal.AboveMax) (found.Answer yes (reads hs os x))) (found.Refused rule)))
+      by-tests true true = (refl, refl)
+      by-tests true false = (refl, refl)
+      by-tests false t = (refl, refl)

@@ -2,6 +2,7 @@
 use mathlib.Core.Path.{_≡_, _∙_, sym}
 use Rattle.skip.proofs.check.Reads as check
 use Rattle.skip.proofs.search.Reads as search
+use Rattle.skip.proofs.search_counted.Reads as search-counted
 use Rattle.skip.proofs.start_index.Reads as start-index
 use Rattle.skip.proofs.prefix_sum.Reads as prefix-sum
 use Rattle.skip.proofs.Checked.refusal.Reads as checked-refusal
@@ -12,12 +13,16 @@ use Rattle.skip.proofs.core.lowest_broken.Reads as lowest-broken
 use Rattle.skip.proofs.core.run_end.Reads as run-end
 use Rattle.skip.proofs.core.widen.Reads as widen
 use Rattle.skip.proofs.core.skip_search.Reads as skip-search
+use Rattle.skip.proofs.core.skip_search_counted.Reads as skip-search-counted
 
 check-fixed : (κs : _) (a : _) (r r′ : _) (s s′ : _) → check.Post κs a r s → check.Post κs a r′ s′ → r ≡ r′
 check-fixed κs a r r′ s s′ p q = p ∙ sym q
 
 search-fixed : (κs : _) (a : _) (r r′ : _) (s s′ : _) → search.Post κs a r s → search.Post κs a r′ s′ → r ≡ r′
 search-fixed κs a r r′ s s′ p q = p ∙ sym q
+
+search-counted-fixed : (κs : _) (a : _) (r r′ : _) (s s′ : _) → search-counted.Post κs a r s → search-counted.Post κs a r′ s′ → r ≡ r′
+search-counted-fixed κs a r r′ s s′ p q = p ∙ sym q
 
 start-index-fixed : (κs : _) (a : _) (r r′ : _) (s s′ : _) → start-index.Post κs a r s → start-index.Post κs a r′ s′ → r ≡ r′
 start-index-fixed κs a r r′ s s′ p q = p ∙ sym q
@@ -47,6 +52,9 @@ run-end-fixed κs a r r′ s s′ p q = p ∙ sym q
 widen-fixed : (κs : _) (a : _) (r r′ : _) (s s′ : _) → widen.Post κs a r s → widen.Post κs a r′ s′ → r ≡ r′
 widen-fixed κs a r r′ s s′ p q = p ∙ sym q
 
-skip-search-fixed : (κs : _) (a : _) (r r′ : _) (s s′ : _) → skip-search.Post κs a r s → skip-search.Post κs a r′ s′
+skip-search-fixed : (κs : _) (a : _) (r r′ : _) (s s′ : _) → skip-search.Post κs a r s → skip-search.Post κs a r′ s′ → r ≡ r′
+skip-search-fixed κs a r r′ s s′ p q = p ∙ sym q
+
+skip-search-counted-fixed : (κs : _) (a : _) (r r′ : _) (s s′ : _) → skip-search-counted.Post κs a r s → skip-search-counted.Post κs a r′ s′
     → (r .yes ≡ r′ .yes) × (r .read ≡ r′ .read)
-skip-search-fixed κs a r r′ s s′ p q = (p .0 ∙ sym (q .0), p .1 ∙ sym (q .1))
+skip-search-counted-fixed κs a r r′ s s′ p q = (p .0 ∙ sym (q .0), p .1 ∙ sym (q .1))

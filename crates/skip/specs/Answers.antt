@@ -6,6 +6,8 @@ use mathlib.Core.Bool.{Bool, false, cond}
 use lib.Dec.{ltb, eqb}
 use Rattle.scalar.specs.declared.refusal.Refusal.{Refusal}
 use Rattle.scalar.specs.declared.refusal.Refusal.the-variants as refusal
+use Rattle.scalar.specs.declared.Answer.{Answer}
+use Rattle.scalar.specs.declared.Answer.the-variants as answer
 use Rattle.sets.specs.Boundaries.{member}
 use Rattle.skip.specs.Table.{boundaries, reads}
 use Rattle.skip.specs.Rules.{broken}
@@ -22,7 +24,12 @@ tableElse refuse hs os good = cond (eqb (broken hs os) 0) good (refuse (refusal.
 abbrev pub checks : List ℕ → List ℕ → Checked
 checks hs os = tableElse checked.Refused hs os checked.Accepted
 
--- search in a lent table: 8, then 1; else membership and the offsets read
+-- search in a lent table: 8, then 1; else membership
+abbrev pub searches : List ℕ → List ℕ → ℕ → Answer
+searches hs os x =
+    tableElse answer.Refused hs os (cond (ltb 0x10FFFF x) (answer.Refused refusal.AboveMax) (answer.Is (member (boundaries hs os) x)))
+
+-- the same with the offsets read
 abbrev pub finds : List ℕ → List ℕ → ℕ → Found
 finds hs os x =
     tableElse found.Refused hs os

@@ -4,11 +4,11 @@ ghost use mathlib.Core.Bool.{true};
 ghost use Prim.Native.Nat.{_+_, _*_, _≤_, _<_};
 ghost use lib.ListN.{length, getD, drop};
 ghost use lib.Seq.{slice};
-ghost use Rattle.sets.specs.Boundaries.{member};
+ghost use Rattle.sets.specs.Boundaries.{odd, member};
 ghost use Rattle.skip.specs.Headers.{runEnd};
 ghost use Rattle.skip.specs.Table.{boundaries, reads};
 ghost use Rattle.skip.specs.Rules.{W4, broken};
-ghost use Rattle.skip.specs.Seek.{Run, prev, total, upto};
+ghost use Rattle.skip.specs.Seek.{Run, Stops, prev, total, upto};
 use crate::prefix_sum;
 use crate::rules::sizes_ok;
 use crate::rules::starts_at_zero;
@@ -21,6 +21,13 @@ use crate::start_index;
 pub struct Hit {
     pub yes: bool,
     pub read: usize,
+}
+
+// Where a search stops.
+struct Stop {
+    begin: usize,
+    last: usize,
+    at: usize,
 }
 
 pub fn widen(x: u8) -> u32
@@ -152,21 +159,47 @@ fn within(offsets: &[u8], x: u32, begin: usize, last: usize, before: u32) -> usi
     one_by_one(offsets, x, i, last, at)
 }
 
-// The answer of an accepted table; a run's last offset is never read.
-pub fn skip_search(headers: &[u32], offsets: &[u8], x: u32) -> Hit
+// Where a search in an accepted table stops: at offset `at` of the run whose offsets go from `begin` to `last`, or at its last
+// offset, which is never read.
+fn seek(headers: &[u32], offsets: &[u8], x: u32) -> Stop
     requires { ⌜ (broken (now headers) (now offsets) ≡ 0) × (x ≤ 0x10FFFF) ⌝ }
-    ensures { λ r. ⌜ (r .yes ≡ member (boundaries (now (headers .entry)) (now (offsets .entry))) x) × (r .read ≡ reads (now (headers .entry)) (now (offsets .entry)) x) ⌝ }
+    ensures { λ r. ⌜ Stops (now (headers .entry)) (now (offsets .entry)) x (r .begin) (r .last) (r .at) ⌝ }
 {
     let k = run_of(headers, x);
     let begin = start_index(headers[k]);
     let end = run_end(headers, offsets.len(), k);
     let last = end - 1;
-    let i = within(offsets, x, begin, last, sum_before(headers, k));
-    let yes = i % 2 == 1;
-    if i < last {
-        let read = i - begin + 1;
+    let at = within(offsets, x, begin, last, sum_before(headers, k));
+    Stop { begin, last, at }
+}
+
+// A number is in the set if an odd number of boundaries are at most it.
+fn is_odd(n: usize) -> bool
+    ensures { λ r. ⌜ r ≡ odd n ⌝ }
+{
+    n % 2 == 1
+}
+
+// Whether an accepted table holds x.
+pub fn skip_search(headers: &[u32], offsets: &[u8], x: u32) -> bool
+    requires { ⌜ (broken (now headers) (now offsets) ≡ 0) × (x ≤ 0x10FFFF) ⌝ }
+    ensures { λ r. ⌜ r ≡ member (boundaries (now (headers .entry)) (now (offsets .entry))) x ⌝ }
+{
+    let stop = seek(headers, offsets, x);
+    is_odd(stop.at)
+}
+
+// The same, with the count of the offsets read.
+pub fn skip_search_counted(headers: &[u32], offsets: &[u8], x: u32) -> Hit
+    requires { ⌜ (broken (now headers) (now offsets) ≡ 0) × (x ≤ 0x10FFFF) ⌝ }
+    ensures { λ r. ⌜ (r .yes ≡ member (boundaries (now (headers .entry)) (now (offsets .entry))) x) × (r .read ≡ reads (now (headers .entry)) (now (offsets .entry)) x) ⌝ }
+{
+    let stop = seek(headers, offsets, x);
+    let yes = is_odd(stop.at);
+    if stop.at < stop.last {
+        let read = stop.at - stop.begin + 1;
         return Hit { yes, read };
     }
-    let read = last - begin;
+    let read = stop.last - stop.begin;
     Hit { yes, read }
 }

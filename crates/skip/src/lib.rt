@@ -1,13 +1,15 @@
-// Skip tables: header words, the checker, and the search with its read count.
+// Skip tables: header words, the checker, and the search, plain or with its read count.
 ghost use mathlib.Core.Path.{_≡_};
 ghost use Rattle.skip.specs.Headers.{startIndex, prefixSum};
-ghost use Rattle.skip.specs.Answers.{checks, finds, checkRefusal, foundRefusal, foundYes, foundRead};
+ghost use Rattle.skip.specs.Answers.{checks, searches, finds, checkRefusal, foundRefusal, foundYes, foundRead};
 
 pub mod core;
 mod rules;
 
 use core::lowest_broken;
 use core::skip_search;
+use core::skip_search_counted;
+use scalar::Answer;
 use scalar::Refusal;
 use scalar::Scalar;
 
@@ -17,7 +19,7 @@ pub enum Checked {
     Refused(Refusal),
 }
 
-// What the search answers: whether the number is in the set, and how many offsets of its run were read.
+// What the counted search answers: whether the number is in the set, and how many offsets of its run were read.
 pub enum Found {
     Answer(bool, usize),
     Refused(Refusal),
@@ -91,8 +93,22 @@ pub fn check(headers: &[u32], offsets: &[u8]) -> Checked
     Checked::Refused(Refusal::BrokenRule(rule))
 }
 
-// Whether x is in the table's set, and how many offsets of its run were read; refuses 8, then 1.
-pub fn search(headers: &[u32], offsets: &[u8], x: u32) -> Found
+// Whether x is in the table's set; refuses 8, then 1.
+pub fn search(headers: &[u32], offsets: &[u8], x: u32) -> Answer
+    ensures { λ r. ⌜ r ≡ searches (now (headers .entry)) (now (offsets .entry)) x ⌝ }
+{
+    let checked = check(headers, offsets);
+    let Checked::Accepted = checked else {
+        return Answer::Refused(checked.refusal());
+    };
+    if x > Scalar::MAX {
+        return Answer::Refused(Refusal::AboveMax);
+    }
+    Answer::Is(skip_search(headers, offsets, x))
+}
+
+// The same, with the count of the offsets of its run that were read; refuses as the plain search does.
+pub fn search_counted(headers: &[u32], offsets: &[u8], x: u32) -> Found
     ensures { λ r. ⌜ r ≡ finds (now (headers .entry)) (now (offsets .entry)) x ⌝ }
 {
     let checked = check(headers, offsets);
@@ -102,6 +118,6 @@ pub fn search(headers: &[u32], offsets: &[u8], x: u32) -> Found
     if x > Scalar::MAX {
         return Found::Refused(Refusal::AboveMax);
     }
-    let hit = skip_search(headers, offsets, x);
+    let hit = skip_search_counted(headers, offsets, x);
     Found::Answer(hit.yes, hit.read)
 }

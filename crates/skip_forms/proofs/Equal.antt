@@ -12,6 +12,7 @@ use contract.Monad.{Fun, fact}
 use denote.Ref.{RefT, now}
 use Rattle.skip.proofs.check as check
 use Rattle.skip.proofs.search as search
+use Rattle.skip.proofs.search_counted as search-counted
 use Rattle.pack.specs.Answers.{Packs}
 use Rattle.pack.proofs.pack as pack
 use Rattle.skip_forms.specs.Records.{flatten}
@@ -20,6 +21,7 @@ use Rattle.skip_forms.specs.declared.views.TableView.{TableView}
 use Rattle.skip_forms.proofs.Fixed.{together}
 use Rattle.skip_forms.proofs.views.check_view as check-view
 use Rattle.skip_forms.proofs.views.search_view as search-view
+use Rattle.skip_forms.proofs.views.search_view_counted as search-view-counted
 use Rattle.skip_forms.proofs.records.pack_ranges as pack-ranges
 
 module _ {M : Type 1} (𝓤 : URA M) (H : Heap 𝓤) (A : Atoms 𝓤) (mem : Memory → SProp 𝓤) (run : Routine → Fun 𝓤) where
@@ -31,6 +33,10 @@ module _ {M : Type 1} (𝓤 : URA M) (H : Heap 𝓤) (A : Atoms 𝓤) (mem : Mem
   search-view-equal : (κs κs′ : _) (v : TableView) (x : ℕ) (r r′ : _) (s s′ : _)
       → ent 𝓤 (sep 𝓤 (search-view.clauses 𝓤 H A mem run κs (v, (x, tt)) .ensures tt r s) (search.clauses 𝓤 H A mem run κs′ (v .headers, (v .offsets, (x, tt))) .ensures tt r′ s′)) (fact 𝓤 (r ≡ r′))
   search-view-equal κs κs′ v x r r′ s s′ = together 𝓤 (λ p q. p ∙ sym q)
+
+  search-view-counted-equal : (κs κs′ : _) (v : TableView) (x : ℕ) (r r′ : _) (s s′ : _)
+      → ent 𝓤 (sep 𝓤 (search-view-counted.clauses 𝓤 H A mem run κs (v, (x, tt)) .ensures tt r s) (search-counted.clauses 𝓤 H A mem run κs′ (v .headers, (v .offsets, (x, tt))) .ensures tt r′ s′)) (fact 𝓤 (r ≡ r′))
+  search-view-counted-equal κs κs′ v x r r′ s s′ = together 𝓤 (λ p q. p ∙ sym q)
 
   -- a list lent as records is packed as the same list lent as flat pairs, into buffers that hold the same
   pack-ranges-equal : (κs κs′ : _) (ranges : RefT (List Range)) (list headers offsets headers₂ offsets₂ : RefT (List ℕ)) (r r′ : _) (s s′ : _)

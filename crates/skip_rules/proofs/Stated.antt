@@ -16,7 +16,8 @@ use Rattle.skip.specs.declared.Checked.the-variants as checked
 use Rattle.skip.specs.declared.Found.the-variants as found
 use Rattle.sets.specs.Boundaries.{member}
 use Rattle.skip.specs.Table.{boundaries, reads}
-use Rattle.skip.specs.Answers.{checks, finds}
+use Rattle.scalar.specs.declared.Answer.the-variants as answer
+use Rattle.skip.specs.Answers.{checks, searches, finds}
 use Rattle.skip.proofs.Answers.{accepted-rules, accepted-as, table-good, table-refused}
 use Rattle.skip.proofs.Lowest5.{size-low, size-high, all, none}
 use Rattle.skip_rules.proofs.Literal.{starts-say, starts-said, sums-say, sums-said, fit-say, fit-said}
@@ -178,7 +179,11 @@ checks-refused hs os k l w =
     let e = lowest-exactly hs os k l .1 w in
     rw (← e) (table-refused hs os checked.Refused checked.Accepted (λ z. omega arith))
 
--- and in each of them the search follows the boundary count, at every number to 0x10FFFF
+-- and in each of them both searches follow the boundary count, at every number to 0x10FFFF
+pub searches-member : (hs os : List ℕ) (x : ℕ) → Keeps hs os → x ≤ 0x10FFFF → answer.Is (member (boundaries hs os) x) ≡ searches hs os x
+searches-member hs os x k l =
+    accepted-as hs os answer.Refused _ _ (checks-accepted hs os .1 k) (simp (le-ltb _ _ l))
+
 pub finds-member : (hs os : List ℕ) (x : ℕ) → Keeps hs os → x ≤ 0x10FFFF
     → found.Answer (member (boundaries hs os) x) (reads hs os x) ≡ finds hs os x
 finds-member hs os x k l =

@@ -11,6 +11,5 @@ pub fn lookup(n: u32) -> bool
     requires { ⌜ n ≤ 0x10FFFF ⌝ }
     ensures { λ r. ⌜ r ≡ holds flat n ⌝ }
 {
-    let hit = skip::core::skip_search(&HEADERS, &OFFSETS, n);
-    hit.yes
+    skip::core::skip_search(&HEADERS, &OFFSETS, n)
 }

@@ -28,8 +28,7 @@ fn searched(n: u32) -> bool
     requires { ⌜ n ≤ 0x10FFFF ⌝ }
     ensures { λ r. ⌜ r ≡ holds flat n ⌝ }
 {
-    let hit = skip::core::skip_search(&HEADERS, &OFFSETS, n);
-    hit.yes
+    skip::core::skip_search(&HEADERS, &OFFSETS, n)
 }
 
 // Whether n is numeric and no ASCII character. A name hardly holds such a number, and a lent table is built anew at each call: so

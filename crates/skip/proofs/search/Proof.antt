@@ -6,7 +6,7 @@ use native.Mathlib.Omega.{arith}
 use borrow.Author.Needs.{needs}
 use borrow.Author.Tests.{le-ltb, lt-ltb}
 use Rattle.skip.specs.Answers.{checkRefusal}
-use Rattle.skip.specs.declared.Found.the-variants as found
+use Rattle.scalar.specs.declared.Answer.the-variants as answer
 use Rattle.skip.proofs.Answers.{refused-as, accepted-rules, accepted-as}
 use Rattle.skip.proofs.search.Statement.{statement}
 use Rattle.skip.proofs.search.Tie as tie
@@ -27,13 +27,13 @@ returns : tie.Need-returns
 returns c =
     let told = c .before .enum-told2 .given in
     rw (c .refusal .ensures ∙ ap checkRefusal (told .1))
-    (refused-as _ _ found.Refused _ (told .0 .0) (sym (told .1) ∙ c .before .before .before .check .ensures))
+    (refused-as _ _ answer.Refused _ (told .0 .0) (sym (told .1) ∙ c .before .before .before .check .ensures))
 
 returns-2 : tie.Need-returns-2
 returns-2 c =
     let told = c .before .enum-told .given in
     let above : 0x10FFFF < c .before .before .before .before .before .before .args .x = omega arith in
-    accepted-as _ _ found.Refused _ _ (sym (told .1) ∙ c .before .before .before .check .ensures)
+    accepted-as _ _ answer.Refused _ _ (sym (told .1) ∙ c .before .before .before .check .ensures)
     (simp (lt-ltb 0x10FFFF _ above))
 
 skip-search-requires : tie.Need-skip-search-requires
@@ -45,8 +45,8 @@ returns-3 : tie.Need-returns-3
 returns-3 c =
     let told = c .before .before .enum-told .given in
     let inside : c .before .before .before .before .before .before .before .args .x ≤ 0x10FFFF = omega (arith, c .before .if1 .left) in
-    accepted-as _ _ found.Refused _ _ (sym (told .1) ∙ c .before .before .before .before .check .ensures)
-    (simp (le-ltb 0x10FFFF _ inside, c .skip-search .ensures .0, c .skip-search .ensures .1))
+    accepted-as _ _ answer.Refused _ _ (sym (told .1) ∙ c .before .before .before .before .check .ensures)
+    (simp (le-ltb 0x10FFFF _ inside, c .skip-search .ensures))
 
 pub search-spec : {M : Type 1} → statement M
 search-spec =

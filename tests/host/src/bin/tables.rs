@@ -52,10 +52,22 @@ fn check_table(headers: &[u32], offsets: &[u8]) -> Result<(), model::Refused> {
     told(refusal, carried, ())
 }
 
-fn search_table(headers: &[u32], offsets: &[u8], x: u32) -> Result<(bool, usize), model::Refused> {
-    let Sought { refusal, carried, read, yes } =
+fn search_table(headers: &[u32], offsets: &[u8], x: u32) -> Result<bool, model::Refused> {
+    let YesNo { refusal, carried, yes } =
         unsafe { ffi::becktrestle_search_table(headers.as_ptr(), headers.len(), offsets.as_ptr(), offsets.len(), x) };
+    told(refusal, carried, yes)
+}
+
+fn search_counted(headers: &[u32], offsets: &[u8], x: u32) -> Result<(bool, usize), model::Refused> {
+    let Sought { refusal, carried, read, yes } = unsafe {
+        ffi::becktrestle_search_table_counted(headers.as_ptr(), headers.len(), offsets.as_ptr(), offsets.len(), x)
+    };
     told(refusal, carried, (yes, read))
+}
+
+/// The model's answer without its count.
+fn plain(answer: Result<(bool, usize), model::Refused>) -> Result<bool, model::Refused> {
+    answer.map(|(yes, _)| yes)
 }
 
 /// An expected answer, or for the control another one.
@@ -123,7 +135,7 @@ fn named(report: &mut Report) {
     let (headers, offsets) = model::packing(&titlecase);
     let cases = [(0x1C4, false, 0), (0x1C5, true, 1), (0x1F87, false, 7), (0x1F88, true, 1), (0x1FFC, true, 11), (0x1FFD, false, 11)];
     for (x, yes, read) in cases {
-        report.check(search_table(&headers, &offsets, x) == Ok((yes, read)), &format!("titlecase {x:x}: {yes}, {read} read"));
+        report.check(search_counted(&headers, &offsets, x) == Ok((yes, read)), &format!("titlecase {x:x}: {yes}, {read} read"));
     }
 }
 
@@ -159,7 +171,7 @@ fn built_in(report: &mut Report) {
         let same = unpacks_right(&headers, &offsets, flat.len(), false);
         report.check(unpacked && same, &format!("the Rust table {name} unpacks to its {} ranges", flat.len() / 2));
         let answers = data.property(name).without_ascii().answers();
-        let got: Vec<bool> = (0..=LAST).map(|x| search_table(&headers, &offsets, x).is_ok_and(|found| found.0)).collect();
+        let got: Vec<bool> = (0..=LAST).map(|x| search_table(&headers, &offsets, x) == Ok(true)).collect();
         report.compare(&format!("search in the Rust table {name}"), &got, answers, |a| !a);
     }
 }
@@ -216,7 +228,7 @@ fn damaged(random: &mut Random, list: &mut Vec<u32>) {
 
 fn random_lists(report: &mut Report) {
     let mut random = Random::new(17);
-    let [mut checks, mut searches, mut packs, mut tables, mut found] = [(); 5].map(|()| Tally::default());
+    let [mut checks, mut searches, mut packs, mut tables, mut found, mut counts] = [(); 6].map(|()| Tally::default());
     for _ in 0..LISTS {
         let mut list = a_list(&mut random);
         damaged(&mut random, &mut list);
@@ -235,9 +247,9 @@ fn random_lists(report: &mut Report) {
         if expected.is_ok() {
             tables.case(|flip| check_table(&headers, &offsets) == or_flipped(Ok(()), flip));
             for x in places(&mut random, &list) {
-                let got = search_table(&headers, &offsets, x);
-                let read = model::search(&headers, &offsets, x);
-                found.case(|flip| got == or_flipped(read, flip) && got.map(|(yes, _)| yes) == held(&list, x));
+                let counted = model::search(&headers, &offsets, x);
+                found.case(|flip| search_table(&headers, &offsets, x) == or_flipped(held(&list, x), flip));
+                counts.case(|flip| search_counted(&headers, &offsets, x) == or_flipped(counted, flip));
             }
         }
     }
@@ -246,6 +258,7 @@ fn random_lists(report: &mut Report) {
     report.tallied("pack, every length around each need", packs);
     report.tallied("check_table of the packed", tables);
     report.tallied("search_table of the packed", found);
+    report.tallied("search_table_counted of the packed", counts);
 }
 
 /// What a search in an accepted list answers.
@@ -323,7 +336,7 @@ fn damaged_table(random: &mut Random, headers: &mut Vec<u32>, offsets: &mut Vec<
 
 fn random_tables(report: &mut Report) {
     let mut random = Random::new(2026);
-    let [mut checks, mut searches, mut unpacks, mut listed] = [(); 4].map(|()| Tally::default());
+    let [mut checks, mut searches, mut counts, mut unpacks, mut listed] = [(); 5].map(|()| Tally::default());
     let mut by_rule = [0; 6];
     let mut with_joins = 0;
     for _ in 0..TABLES {
@@ -336,7 +349,8 @@ fn random_tables(report: &mut Report) {
         let sums: Vec<u32> = headers.iter().take(6).map(|h| h & 0x1FFFFF).collect();
         for x in places(&mut random, &sums) {
             let answer = model::search(&headers, &offsets, x);
-            searches.case(|flip| search_table(&headers, &offsets, x) == or_flipped(answer, flip));
+            searches.case(|flip| search_table(&headers, &offsets, x) == or_flipped(plain(answer), flip));
+            counts.case(|flip| search_counted(&headers, &offsets, x) == or_flipped(answer, flip));
         }
         let list = model::unpack(&headers, &offsets, usize::MAX);
         if let Ok(list) = &list {
@@ -353,6 +367,7 @@ fn random_tables(report: &mut Report) {
     report.check(by_rule.iter().all(|&n| n > 100), &format!("tables by the lowest broken rule, 0 for none: {by_rule:?}"));
     report.tallied(&format!("check_table of {TABLES} random and damaged tables"), checks);
     report.tallied("search_table in them", searches);
+    report.tallied("search_table_counted in them", counts);
     report.check(with_joins > 1000, &format!("tables with ranges that touch: {with_joins}"));
     report.tallied("unpack, every length around each need", unpacks);
     report.tallied("check_list of the unpacked: 4 or nothing", listed);

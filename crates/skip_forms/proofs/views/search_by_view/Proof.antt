@@ -38,10 +38,10 @@ use denote.Triple.Table.{entered, cited}
 use denote.Triple.Walked.{says, Stays, stay-none-slice, stay-none, walkOf, goes-none-slice, goes-none, Walks, ends-at, walked, walk-meets}
 use denote.Exit.{yes}
 use denote.Triple.Clauses.{ensured, lasts}
-use Rattle.skip.specs.Answers.{finds}
-use Rattle.skip.specs.declared.Found.{Found}
-use Rattle.skip.proofs.Found as S
-use Rattle.skip.proofs.Found.Laws as S′
+use Rattle.skip.specs.Answers.{searches}
+use Rattle.scalar.specs.declared.Answer.{Answer}
+use Rattle.scalar.proofs.Answer as S
+use Rattle.scalar.proofs.Answer.Laws as S′
 use Rattle.skip_forms.specs.declared.views.TableView.{TableView}
 use Rattle.skip_forms.proofs.ViewType.{B}
 use Rattle.skip_forms.proofs.views.TableView as T
@@ -81,8 +81,8 @@ module _ {M : Type 1} (𝓤 : URA M) (H : Heap 𝓤) (A : Atoms 𝓤) (W : Given
   abbrev ov : Val
   ov = sliceVal (o .ptr) (length (o .now))
 
-  abbrev found : Found
-  found = finds (now h) (now o) x
+  abbrev found : Answer
+  found = searches (now h) (now o) x
 
   -- the lifetimes as a local of a body has them
   abbrev αᵉ : NamedLft
@@ -124,10 +124,10 @@ module _ {M : Type 1} (𝓤 : URA M) (H : Heap 𝓤) (A : Atoms 𝓤) (W : Given
   goes-thin : (r : TableView) (u : Val) → ent 𝓤 (onEntry 𝓤 H A thin.signature κs (q, (q′, tt)) (r, (x, tt)) (u ∷ [], (vint w32 x ∷ [], tt))) (Thin 𝓤 H A mem run .pre (to-thin r u))
   goes-thin r u = qed W ((‵ (flft κ q) ⊛ ‵ (flft κ′ q′) ⊛ ‵ ftrue) ∷ ‵ (owns (B κs ∷ u32 ∷ []) (r, (x, tt)) (u ∷ [], (vint w32 x ∷ [], tt))) ∷ []) ∵ join ! $ frame ! $ done !
 
-  thin-said : (r : TableView) (t : Found) → ent 𝓤 (ensured 𝓤 H A thin.ended (thin.clauses 𝓤 H A mem run) κs (r, (x, tt)) tt t) (fact 𝓤 (t ≡ finds (now (r .headers)) (now (r .offsets)) x))
-  thin-said r t = exE 𝓤 _ (λ ws. snd∗ 𝓤 (sem 𝓤 H A (lasts thin.ended κs (r, (x, tt)) ws)) (fact 𝓤 (t ≡ finds (now (r .headers)) (now (r .offsets)) x)))
+  thin-said : (r : TableView) (t : Answer) → ent 𝓤 (ensured 𝓤 H A thin.ended (thin.clauses 𝓤 H A mem run) κs (r, (x, tt)) tt t) (fact 𝓤 (t ≡ searches (now (r .headers)) (now (r .offsets)) x))
+  thin-said r t = exE 𝓤 _ (λ ws. snd∗ 𝓤 (sem 𝓤 H A (lasts thin.ended κs (r, (x, tt)) ws)) (fact 𝓤 (t ≡ searches (now (r .headers)) (now (r .offsets)) x)))
 
-  exits : (t : Found) (u : Val) → x < 2 ^ 32 → t ≡ found → ent 𝓤 (⋆ 𝓤 H A (‵ (S.the-row .own t (u ∷ [])) ∷ (‵ (flft κ q) ⊛ ‵ (flft κ′ q′) ⊛ ‵ ftrue) ∷ ‵ OwnO ∷ ‵ OwnH ∷ [])) (Post u)
+  exits : (t : Answer) (u : Val) → x < 2 ^ 32 → t ≡ found → ent 𝓤 (⋆ 𝓤 H A (‵ (S.the-row .own t (u ∷ [])) ∷ (‵ (flft κ q) ⊛ ‵ (flft κ′ q′) ⊛ ‵ ftrue) ∷ ‵ OwnO ∷ ‵ OwnH ∷ [])) (Post u)
   exits t u fits e =
       qed W (‵ (S.the-row .own t (u ∷ [])) ∷ (‵ (flft κ q) ⊛ ‵ (flft κ′ q′) ⊛ ‵ ftrue) ∷ ‵ OwnO ∷ ‵ OwnH ∷ []) ∵
       suffices ! _ (ends-at 𝓤 H A fn.ended stayed (fn.clauses 𝓤 H A mem run) W ((κs, (q, (q′, tt)), tt, (h, (o, (x, tt))), at), tt) u t (tt, (tt, (tt, tt))) (tt, (tt, (tt, tt)))) $ says ! e $
@@ -153,14 +153,14 @@ module _ {M : Type 1} (𝓤 : URA M) (H : Heap 𝓤) (A : Atoms 𝓤) (W : Given
         land ! (from ! (stop !)) (init ! 4 refl (LL.lawful (T.the-type αᵉ βᵉ) (T′.the-laws αᵉ βᵉ) 𝓤 H A W .typed r _ is .0)) $
         nothing ! $ owned ! u32 (Is u32) (uint-makes 𝓤 H A W w32) x _ (refl, gx) $ fjoin ! $ move ! (1 ∷ 0 ∷ []) $ fjoin ! $ move ! (1 ∷ 0 ∷ []) $ use2 W (raw (Thin 𝓤 H A mem run .pre (to-thin r u))) (goes-thin r u) $
         calls-at ! fm (Thin 𝓤 H A mem run) known-thin (to-thin r u) (and-then ! (load ! (from ! (stop !)) (look ! 3 refl)) (and-then ! (load ! (from ! (stop !)) (look ! 5 refl)) (no-more !))) (λ w.
-        use1 W (later (some (λ (t : Found). ((‵ (flft κ q) ⊛ ‵ (flft κ′ q′) ⊛ ‵ ftrue) ⊛ ‵ (S.the-row .own t (w ∷ []))) ⊛ raw (ensured 𝓤 H A thin.ended (thin.clauses 𝓤 H A mem run) κs (r, (x, tt)) tt t)))) (id⊢ 𝓤 _) $ await ! tt $ pick ! (λ t.
-        split ! $ move ! (1 ∷ []) $ use1 W (raw (fact 𝓤 (t ≡ finds (now (r .headers)) (now (r .offsets)) x))) (thin-said r t) $ heard ! (t ≡ finds (now (r .headers)) (now (r .offsets)) x) (λ e′. split ! $ move ! (1 ∷ []) $
+        use1 W (later (some (λ (t : Answer). ((‵ (flft κ q) ⊛ ‵ (flft κ′ q′) ⊛ ‵ ftrue) ⊛ ‵ (S.the-row .own t (w ∷ []))) ⊛ raw (ensured 𝓤 H A thin.ended (thin.clauses 𝓤 H A mem run) κs (r, (x, tt)) tt t)))) (id⊢ 𝓤 _) $ await ! tt $ pick ! (λ t.
+        split ! $ move ! (1 ∷ []) $ use1 W (raw (fact 𝓤 (t ≡ searches (now (r .headers)) (now (r .offsets)) x))) (thin-said r t) $ heard ! (t ≡ searches (now (r .headers)) (now (r .offsets)) x) (λ e′. split ! $ move ! (1 ∷ []) $
         -- [the result; the tokens; what offsets owns; what headers owns; _4; …]
         peeks ! S.the-row (Is S.the-row) (shows 𝓤 H A S.the-row) t (w ∷ []) (λ is′.
         land ! (from ! (stop !)) (init ! 12 refl (EL.lawful S.the-type S′.the-laws 𝓤 H A W tt .typed t _ is′ .0)) $
         returns ! (look ! 12 refl) $ forget ! 4 refl $ forget ! 6 refl $ forget ! 8 refl $ forget ! 10 refl $ forget ! 12 refl $
         move ! (12 ∷ 13 ∷ []) $ free1 ! $ move ! (10 ∷ 11 ∷ []) $ free1 ! $ move ! (8 ∷ 9 ∷ []) $ free1 ! $ move ! (6 ∷ 7 ∷ []) $ free1 ! $ move ! (4 ∷ 5 ∷ []) $ free1 ! $ free0 ! $
-        by ! (exits t w gx (e′ ∙ (ap (λ (z : RefT (List ℕ)). finds (now z) (now (r .offsets)) x) (e .0) ∙ ap (λ (z : RefT (List ℕ)). finds (now h) (now z) x) (e .1)))))))))))))))))
+        by ! (exits t w gx (e′ ∙ (ap (λ (z : RefT (List ℕ)). searches (now z) (now (r .offsets)) x) (e .0) ∙ ap (λ (z : RefT (List ℕ)). searches (now h) (now z) x) (e .1)))))))))))))))))
 
 module _ {M : Type 1} (𝓤 : URA M) (H : Heap 𝓤) (A : Atoms 𝓤) (W : Given 𝓤 H A) (mem : Memory → SProp 𝓤) (run : Routine → Fun 𝓤) (𝓣 : Tables 𝓤 H) (known-new : Triple 𝓤 (𝓣 .C #view) (New 𝓤 H A mem run)) (known-thin : Triple 𝓤 (𝓣 .C #search-view) (Thin 𝓤 H A mem run)) where
   walks : Walks 𝓤 H A fn.ended stayed (WpFn 𝓤 H (𝓣 .C) (𝓣 .Λ) code.function) (fn.clauses 𝓤 H A mem run)

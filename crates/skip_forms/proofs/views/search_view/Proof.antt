@@ -41,10 +41,10 @@ use denote.Triple.Table.{entered, cited}
 use denote.Triple.Walked.{says, Stays, stay-none, walkOf, goes-none, Walks, ends-at, walked, walk-meets}
 use denote.Exit.{yes}
 use denote.Triple.Clauses.{ensured, lasts}
-use Rattle.skip.specs.Answers.{finds}
-use Rattle.skip.specs.declared.Found.{Found}
-use Rattle.skip.proofs.Found as S
-use Rattle.skip.proofs.Found.Laws as S′
+use Rattle.skip.specs.Answers.{searches}
+use Rattle.scalar.specs.declared.Answer.{Answer}
+use Rattle.scalar.proofs.Answer as S
+use Rattle.scalar.proofs.Answer.Laws as S′
 use Rattle.skip.proofs.search as core
 use Rattle.skip.proofs.search.Symbol as search-def
 use Rattle.skip.proofs.search.Symbol.{name as #skip·search}
@@ -72,8 +72,8 @@ module _ {M : Type 1} (𝓤 : URA M) (H : Heap 𝓤) (A : Atoms 𝓤) (W : Given
   abbrev mach : Val
   mach = T′.lowered d
 
-  abbrev found : Found
-  found = finds (now (d .headers)) (now (d .offsets)) x
+  abbrev found : Answer
+  found = searches (now (d .headers)) (now (d .offsets)) x
 
   abbrev at : Vals thin.signature κs
   at = (mach ∷ [], (vint w32 x ∷ [], tt))
@@ -110,10 +110,10 @@ module _ {M : Type 1} (𝓤 : URA M) (H : Heap 𝓤) (A : Atoms 𝓤) (W : Given
       move ! (2 ∷ 1 ∷ []) $ use2 W (raw (Search 𝓤 H A mem run .pre to)) asked $ frame ! $ done !)
 
   -- of the callee's `ensured`, the clause alone: it has no `&mut`, so what is said of last values is dropped
-  said : (n : Found) → ent 𝓤 (ensured 𝓤 H A core.ended (core.clauses 𝓤 H A mem run) κs (d .headers, (d .offsets, (x, tt))) tt n) (fact 𝓤 (n ≡ found))
+  said : (n : Answer) → ent 𝓤 (ensured 𝓤 H A core.ended (core.clauses 𝓤 H A mem run) κs (d .headers, (d .offsets, (x, tt))) tt n) (fact 𝓤 (n ≡ found))
   said n = exE 𝓤 _ (λ ws. snd∗ 𝓤 (sem 𝓤 H A (lasts core.ended κs (d .headers, (d .offsets, (x, tt))) ws)) (fact 𝓤 (n ≡ found)))
 
-  exits : (n : Found) (u : Val) → n ≡ found → ent 𝓤 (⋆ 𝓤 H A (‵ (S.the-row .own n (u ∷ [])) ∷ (‵ (flft κ q) ⊛ ‵ (flft κ′ q′) ⊛ ‵ ftrue) ∷ ‵ Kept ∷ [])) (Post u)
+  exits : (n : Answer) (u : Val) → n ≡ found → ent 𝓤 (⋆ 𝓤 H A (‵ (S.the-row .own n (u ∷ [])) ∷ (‵ (flft κ q) ⊛ ‵ (flft κ′ q′) ⊛ ‵ ftrue) ∷ ‵ Kept ∷ [])) (Post u)
   exits n u e =
       qed W (‵ (S.the-row .own n (u ∷ [])) ∷ (‵ (flft κ q) ⊛ ‵ (flft κ′ q′) ⊛ ‵ ftrue) ∷ ‵ Kept ∷ []) ∵
       suffices ! _ (ends-at 𝓤 H A thin.ended stayed (thin.clauses 𝓤 H A mem run) W ((κs, (q, (q′, tt)), tt, (d, (x, tt)), at), tt) u n (tt, (tt, tt)) (tt, (tt, tt))) $ says ! e $
@@ -128,7 +128,7 @@ module _ {M : Type 1} (𝓤 : URA M) (H : Heap 𝓤) (A : Atoms 𝓤) (W : Given
         assigns ! (of-opd ! (load ! (from ! (fld ! refl (stop !))) (look-in ! 6 (sub ! 1 refl (whole !))))) (from ! (stop !)) (init ! 0 refl (tt, wt .1 .1 .0)) $
         move ! (10 ∷ []) $ use1 W (raw (Search 𝓤 H A mem run .pre to) ⊛ ‵ Kept) (apart gx) $ split ! $
         calls-at ! fm (Search 𝓤 H A mem run) known to (and-then ! (load ! (from ! (stop !)) (look ! 4 refl)) (and-then ! (load ! (from ! (stop !)) (look ! 2 refl)) (and-then ! (load ! (from ! (stop !)) (look ! 6 refl)) (no-more !)))) (λ u.
-        use1 W (later (some (λ (n : Found). ((‵ (flft κ q) ⊛ ‵ (flft κ′ q′) ⊛ ‵ ftrue) ⊛ ‵ (S.the-row .own n (u ∷ []))) ⊛ raw (ensured 𝓤 H A core.ended (core.clauses 𝓤 H A mem run) κs (d .headers, (d .offsets, (x, tt))) tt n)))) (id⊢ 𝓤 _) $ await ! tt $ pick ! (λ n.
+        use1 W (later (some (λ (n : Answer). ((‵ (flft κ q) ⊛ ‵ (flft κ′ q′) ⊛ ‵ ftrue) ⊛ ‵ (S.the-row .own n (u ∷ []))) ⊛ raw (ensured 𝓤 H A core.ended (core.clauses 𝓤 H A mem run) κs (d .headers, (d .offsets, (x, tt))) tt n)))) (id⊢ 𝓤 _) $ await ! tt $ pick ! (λ n.
         split ! $ move ! (1 ∷ []) $ use1 W (raw (fact 𝓤 (n ≡ found))) (said n) $ heard ! (n ≡ found) (λ e. split ! $ move ! (1 ∷ []) $
         -- [the result; the tokens; what the parameters own; _4; …; _3; …; _2; …; _1; …; room for _0; …]
         peeks ! S.the-row (Is S.the-row) (shows 𝓤 H A S.the-row) n (u ∷ []) (λ is.
