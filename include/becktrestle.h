@@ -55,7 +55,7 @@ extern "C" {
 /* How many bytes of stack a call takes at the most, beyond the caller's own: measured, and kept by the gate. */
 #define BECKTRESTLE_STACK_PRINTABLE 8448 /* is_printable */
 #define BECKTRESTLE_STACK_PROPERTY 1920  /* every other property */
-#define BECKTRESTLE_STACK_MAPPING 256    /* the three mappings */
+#define BECKTRESTLE_STACK_MAPPING 320    /* the three mappings */
 #define BECKTRESTLE_STACK_OTHER 256      /* all else */
 
 /* Accepted where refusal is 0. */

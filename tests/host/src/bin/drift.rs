@@ -120,7 +120,9 @@ fn declared(text: &str, marker: &str) -> Said {
         let (parameters, rest) = rest.split_once(')').expect("its parameters");
         let result = rest.split_once("-> ").expect("its result").1;
         let result = result.split([' ', ';']).next().expect("a type");
-        let types = parameters.split(", ").map(|p| slice(p.split_once(": ").expect("a name and a type").1));
+        // One on a line, they end with a comma.
+        let parameters = parameters.split(',').map(str::trim).filter(|p| !p.is_empty());
+        let types = parameters.map(|p| slice(p.split_once(": ").expect("a name and a type").1));
         said.insert(name.to_string(), format!("{} -> {result}", types.collect::<Vec<_>>().join(", ")));
     }
     for part in flat.split("#[repr(C)]").skip(1) {
