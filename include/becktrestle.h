@@ -26,7 +26,7 @@
  * where the length is 0: any aligned address will do there, as that of a local. Buffers that are lent to one call must not
  * overlap. On success every element past the reported length is as it was.
  *
- * ROOM. Code and tables are 29 KB. The BECKTRESTLE_STACK_ macros are the deepest stack, measured over every number to 0x10FFFF
+ * ROOM. Code and tables are 31 KB. The BECKTRESTLE_STACK_ macros are the deepest stack, measured over every number to 0x10FFFF
  * and lists of every length. Time: docs/PERFORMANCE.md.
  */
 #ifndef BECKTRESTLE_H
