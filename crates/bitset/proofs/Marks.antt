@@ -2,17 +2,17 @@
 -- Assumes nothing.
 use Prim.Native.Nat.{ℕ, zero, suc, _+_, _-_, _/_, _%_, _^_, _≤_}
 use mathlib.Core.Path.{_≡_, refl, sym}
-use mathlib.Core.Bool.{Bool, true, false, _&&_, _||_}
+use mathlib.Core.Bool.{Bool, true, false, _&&_}
 use mathlib.Core.List.{List, [], _∷_}
 use mathlib.Core.Logic.{⊎-elim}
 use native.Mathlib.Nat.{zero-div}
 use native.Mathlib.Omega.{arith}
 use borrow.Author.Tests.{leb-true}
 use lib.Dec.{leb}
-use lib.ListN.{length, getD}
+use lib.ListN.{length, List·getD-eq-default}
 use Rattle.scalar.specs.Scalars.{between}
 use Rattle.sets.specs.Lists.{holds}
-use Rattle.sets.proofs.Decide.{same, and-left, and-right}
+use Rattle.sets.proofs.Decide.{same, not-both, and-left, and-right}
 use Rattle.bitset.specs.Marks.{marksAt, marked}
 
 -- the buckets from b on, k more than one, are marked
@@ -24,9 +24,6 @@ unfoldable pub rangesMarked : List ℕ → List ℕ → Bool
 rangesMarked words [] = true
 rangesMarked words (a ∷ []) = true
 rangesMarked words (a ∷ (b ∷ l)) = spanMarked words (b / 64 - a / 64) (a / 64) && rangesMarked words l
-
-no : {A : Type 0} {t : Bool} → t ≡ true → t ≡ false → A
-no e f = let z : _≡_ {A = ℕ} 0 1 = cc in absurd (omega arith)
 
 in-span : (words : List ℕ) (k b c : ℕ) → spanMarked words k b ≡ true → b ≤ c → c ≤ b + k → marked words c ≡ true
 unfolding spanMarked
@@ -43,7 +40,7 @@ outside : (words : List ℕ) (a b n : ℕ) → spanMarked words (b / 64 - a / 64
 outside words a b n t u true e =
     let f = leb-true a n (and-left (leb a n) (leb n b) e) in
     let g = leb-true n b (and-right (leb a n) (leb n b) e) in
-    no (in-span words (b / 64 - a / 64) (a / 64) (n / 64) t (omega arith) (omega arith)) u
+    not-both (in-span words (b / 64 - a / 64) (a / 64) (n / 64) t (omega arith) (omega arith)) u
 outside words a b n t u false e = refl
 
 pub unmarked : (words l : List ℕ) → rangesMarked words l ≡ true → (n : ℕ) → marked words (n / 64) ≡ false → false ≡ holds l n
@@ -55,12 +52,7 @@ unmarked words (a ∷ (b ∷ l)) t n u =
     let here = outside words a b n (and-left span (rangesMarked words l) t) u (between a b n) refl in
     rw here (unmarked words l (and-right span (rangesMarked words l) t) n u)
 
-past : (words : List ℕ) (k : ℕ) → length words ≤ k → getD words k 0 ≡ 0
-past [] k h = refl
-past (w ∷ words) zero h = absurd (omega arith)
-past (w ∷ words) (suc k) h = past words k (omega arith)
-
 -- past the end of the map
 pub past-marks : (words : List ℕ) (bucket : ℕ) → length words ≤ bucket / 64 → marked words bucket ≡ false
 unfolding marksAt
-past-marks words bucket h = rw (past words (bucket / 64) h, zero-div (2 ^ (bucket % 64))) refl
+past-marks words bucket h = rw (List·getD-eq-default words 0 h, zero-div (2 ^ (bucket % 64))) refl

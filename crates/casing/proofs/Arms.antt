@@ -1,31 +1,26 @@
 -- What the default of a `match` over fours of rows, over pages or over multi rows knows: the number is none of the arms'. And the row among the four
 -- that hold it. Assumes nothing.
-use Prim.Native.Nat.{ℕ, zero, suc, _+_, _*_, _/_, _%_, _<_, _≤_}
+use Prim.Native.Nat.{ℕ, _+_, _*_, _/_, _%_, _≤_}
 use mathlib.Core.Path.{_≡_, sym, refl, ap}
-use mathlib.Core.Bool.{Bool, true, false, cond}
+use mathlib.Core.Bool.{cond}
 use mathlib.Core.List.{List, [], _∷_}
 use native.Mathlib.Omega.{arith}
 use borrow.Author.Tests.{ne-eqb}
 use lib.Dec.{eqb}
-use lib.ListN.{length, getD}
+use lib.ListN.{length, getD, List·getD-eq-default}
 use Rattle.sets.proofs.Arms.{NoneBelow, none-below}
 use Rattle.casing.specs.declared.core.Four.{Four}
-use Rattle.casing.specs.declared.core.Page.{Page}
 use Rattle.casing.specs.declared.core.Page.the-variants as page
 use Rattle.casing.specs.declared.Mapping.{Mapping}
 use Rattle.casing.specs.Reading.{fourAt, pageOf}
 use Rattle.casing.specs.Rows.{zip, firstRow, multiple}
 
-beyond : (l : List ℕ) (i : ℕ) → length l ≤ i → 0 ≡ getD l i 0
-beyond [] i h = refl
-beyond (n ∷ l) zero h = absurd (omega arith)
-beyond (n ∷ l) (suc i) h = beyond l i (omega arith)
-
 -- past the fours of a list
 pub past-four : (l : List ℕ) (i n : ℕ) → length l ≤ n * 4 → NoneBelow n i → record { a = 0; b = 0; c = 0; d = 0 } ≡ fourAt l i
 past-four l i n h o =
     let k = none-below n o in
-    rw (sym (beyond l (i * 4) (omega arith)), sym (beyond l (i * 4 + 1) (omega arith)), sym (beyond l (i * 4 + 2) (omega arith)), sym (beyond l (i * 4 + 3) (omega arith))) refl
+    let gone : (j : ℕ) → n * 4 ≤ j → getD l j 0 ≡ 0 = λ j g. List·getD-eq-default l 0 (omega arith) in
+    rw (gone (i * 4) (omega arith), gone (i * 4 + 1) (omega arith), gone (i * 4 + 2) (omega arith), gone (i * 4 + 3) (omega arith)) refl
 
 -- the word at i among the four that hold it
 module _ (four : Four) (i : ℕ) (words : List ℕ) (e : four ≡ fourAt words (i / 4)) where

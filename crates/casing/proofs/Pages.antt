@@ -10,7 +10,7 @@ use borrow.Author.Tests.{leb-true, ltb-true}
 use lib.Dec.{leb, ltb, eqb}
 use lib.ListN.{length, getD}
 use Rattle.scalar.specs.Scalars.{between}
-use Rattle.sets.proofs.Decide.{same, and-left, and-right}
+use Rattle.sets.proofs.Decide.{same, not-both, and-left, and-right}
 use Rattle.casing.specs.declared.Mapping.{Mapping}
 use Rattle.casing.specs.declared.core.Found.{Found}
 use Rattle.casing.specs.declared.core.Found.the-variants.{To, Nothing}
@@ -20,9 +20,6 @@ use Rattle.casing.specs.Rows.{Rows, Row, zip, firstRow, covers, moved, s
 use Rattle.casing.specs.Reading.{orElse, Says, rowSays, wordOf, unpacked, packed, pageOf, Halved, among, inUse, singlesPaged, multisPaged, pagesFit, rowsFit, readable}
 use Rattle.casing.proofs.Sorted.{Only, only, no-last}
 use Rattle.casing.proofs.Reader.{empty, zip-length, zip-at, singles-parts, single-found, single-missed, multi-missed}
-
-not-both : {A : Type 0} {t : Bool} → t ≡ true → t ≡ false → A
-not-both e f = let z : _≡_ {A = ℕ} 0 1 = cc in absurd (omega arith)
 
 -- the parts of the test
 pub record Readable (rows : Rows) (pages : List ℕ) : Type 0 where

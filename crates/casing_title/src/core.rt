@@ -1,4 +1,4 @@
-// The title mapping of a scalar value.
+// The title mapping of a number.
 ghost use mathlib.Core.Path.{_≡_};
 ghost use Rattle.casing.specs.Listed.{rowOf};
 ghost use Rattle.casing.specs.Reading.{Says};

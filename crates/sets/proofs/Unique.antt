@@ -4,19 +4,16 @@
 use Prim.Native.Nat.{ℕ, _+_, _%_, _<_, _≤_}
 use mathlib.Core.Path.{_≡_, _∙_, sym, refl}
 use mathlib.Core.List.{List, [], _∷_}
-use mathlib.Core.Bool.{Bool, true, false}
+use mathlib.Core.Bool.{true, false}
 use mathlib.Core.Logic.{⊎-elim}
 use native.Mathlib.Omega.{arith}
 use borrow.Author.Tests.{le-leb, lt-leb}
 use lib.Dec.{leb}
 use lib.ListN.{length}
 use Rattle.sets.specs.Lists.{ranges, badAt, holds}
-use Rattle.sets.proofs.Decide.{split}
+use Rattle.sets.proofs.Decide.{split, not-both}
 use Rattle.sets.proofs.Good.{Good, pair-good, rises}
 use Rattle.sets.proofs.Members.{none-below}
-
-no : {A : Type 0} {t : Bool} → t ≡ true → t ≡ false → A
-no e f = let z : _≡_ {A = ℕ} 0 1 = cc in absurd (omega arith)
 
 -- a list that has pairs, and from range i on no bad one, none of its numbers below low
 pub record Fine (i low : ℕ) (l : List ℕ) : Type 0 where
@@ -63,7 +60,7 @@ nothing x = refl
 
 -- one list holds a number that the other does not
 apart : {A : Type 0} (l m : List ℕ) (x : ℕ) → holds l x ≡ holds m x → holds l x ≡ true → holds m x ≡ false → A
-apart l m x s t f = no (sym s ∙ t) f
+apart l m x s t f = not-both (sym s ∙ t) f
 
 pub unique : (i low : ℕ) (l m : List ℕ) → Fine i low l → Fine i low m → ((x : ℕ) → x ≤ 0x10FFFF → holds l x ≡ holds m x) → l ≡ m
 unique i low [] [] f g s = refl

@@ -30,8 +30,8 @@ unfoldable pub upto : ℕ → ℕ → List ℕ → ℕ
 upto x at [] = 0
 upto x at (o ∷ os) = cond (leb (at + o) x) (suc (upto x (at + o) os)) 0
 
--- a search for x stops at offset i of the run whose offsets go from begin to last: i boundaries are at most x, and the offsets
--- read are those from begin to i, or all but the last
+-- a search for x stops at offset i of the run whose offsets go from begin to last: x is in the set exactly if i is odd, and the
+-- offsets read are those from begin to i, or all but the last
 pub record Stops (hs os : List ℕ) (x begin last i : ℕ) : Type 0 where
   pub from : begin ≤ i
   pub upto-last : i ≤ last

@@ -4,7 +4,7 @@ ghost use mathlib.Core.Bool.{true};
 ghost use Prim.Native.Nat.{_+_, _*_, _≤_, _<_};
 ghost use lib.ListN.{length, getD, drop};
 ghost use lib.Seq.{slice};
-ghost use Rattle.sets.specs.Boundaries.{odd, member};
+ghost use Rattle.sets.specs.Boundaries.{member};
 ghost use Rattle.skip.specs.Headers.{runEnd};
 ghost use Rattle.skip.specs.Table.{boundaries, reads};
 ghost use Rattle.skip.specs.Rules.{W4, broken};
@@ -173,20 +173,13 @@ fn seek(headers: &[u32], offsets: &[u8], x: u32) -> Stop
     Stop { begin, last, at }
 }
 
-// A number is in the set if an odd number of boundaries are at most it.
-fn is_odd(n: usize) -> bool
-    ensures { λ r. ⌜ r ≡ odd n ⌝ }
-{
-    n % 2 == 1
-}
-
-// Whether an accepted table holds x.
+// Whether an accepted table holds x: an odd number of boundaries are at most it.
 pub fn skip_search(headers: &[u32], offsets: &[u8], x: u32) -> bool
     requires { ⌜ (broken (now headers) (now offsets) ≡ 0) × (x ≤ 0x10FFFF) ⌝ }
     ensures { λ r. ⌜ r ≡ member (boundaries (now (headers .entry)) (now (offsets .entry))) x ⌝ }
 {
     let stop = seek(headers, offsets, x);
-    is_odd(stop.at)
+    stop.at % 2 == 1
 }
 
 // The same, with the count of the offsets read.
@@ -195,7 +188,7 @@ pub fn skip_search_counted(headers: &[u32], offsets: &[u8], x: u32) -> Hit
     ensures { λ r. ⌜ (r .yes ≡ member (boundaries (now (headers .entry)) (now (offsets .entry))) x) × (r .read ≡ reads (now (headers .entry)) (now (offsets .entry)) x) ⌝ }
 {
     let stop = seek(headers, offsets, x);
-    let yes = is_odd(stop.at);
+    let yes = stop.at % 2 == 1;
     if stop.at < stop.last {
         let read = stop.at - stop.begin + 1;
         return Hit { yes, read };

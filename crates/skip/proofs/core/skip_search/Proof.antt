@@ -1,5 +1,4 @@
 -- `skip::core::skip_search` meets its contract: where the search stops, its parity is the answer. Assumes nothing.
-use mathlib.Core.Path.{_∙_}
 use borrow.Author.Needs.{needs}
 use Rattle.skip.proofs.core.skip_search.Statement.{statement}
 use Rattle.skip.proofs.core.skip_search.Tie as tie
@@ -7,11 +6,8 @@ use Rattle.skip.proofs.core.skip_search.Tie as tie
 seek-requires : tie.Need-seek-requires
 seek-requires c κs = search needs
 
-is-odd-requires : tie.Need-is-odd-requires
-is-odd-requires c κs = search needs
-
 returns : tie.Need-returns
-returns c = c .is-odd .ensures ∙ c .before .seek .ensures .parity
+returns c = c .before .seek .ensures .parity
 
 pub skip-search-spec : {M : Type 1} → statement M
-skip-search-spec = tie.close (tie.spec seek-requires is-odd-requires returns)
+skip-search-spec = tie.close (tie.spec seek-requires returns)

@@ -1,5 +1,4 @@
 -- `skip::core::skip_search_counted` meets its contract: where the search stops gives the answer and the count. Assumes nothing.
-use mathlib.Core.Path.{_∙_}
 use native.Mathlib.Omega.{arith}
 use borrow.Author.Needs.{needs}
 use Rattle.skip.proofs.core.skip_search_counted.Statement.{statement}
@@ -7,9 +6,6 @@ use Rattle.skip.proofs.core.skip_search_counted.Tie as tie
 
 seek-requires : tie.Need-seek-requires
 seek-requires c κs = search needs
-
-is-odd-requires : tie.Need-is-odd-requires
-is-odd-requires c κs = search needs
 
 sub-read : tie.Need-sub-read
 sub-read c = search needs
@@ -20,7 +16,7 @@ add-read c = search needs
 returns : tie.Need-returns
 returns c =
     let stops = c .before .before .before .before .seek .ensures in
-    (c .before .before .before .is-odd .ensures ∙ stops .parity, stops .inside (c .before .if1 .taken))
+    (stops .parity, stops .inside (c .before .if1 .taken))
 
 sub-read-2 : tie.Need-sub-read-2
 sub-read-2 c = search needs
@@ -28,7 +24,7 @@ sub-read-2 c = search needs
 returns-2 : tie.Need-returns-2
 returns-2 c =
     let stops = c .before .before .before .before .seek .ensures in
-    (c .before .before .before .is-odd .ensures ∙ stops .parity, stops .at-end (omega (arith, c .before .if1 .left, stops .upto-last)))
+    (stops .parity, stops .at-end (omega (arith, c .before .if1 .left, stops .upto-last)))
 
 pub skip-search-counted-spec : {M : Type 1} → statement M
-skip-search-counted-spec = tie.close (tie.spec seek-requires is-odd-requires sub-read add-read returns sub-read-2 returns-2)
+skip-search-counted-spec = tie.close (tie.spec seek-requires sub-read add-read returns sub-read-2 returns-2)
