@@ -1,4 +1,5 @@
 // Describes the numbers that standard input holds in lowercase hex, one a line: properties, mappings and UTF-8 bytes, or the refusal.
+#![tactic(auto)]
 mod number;
 
 use libc::STDOUT_FILENO;

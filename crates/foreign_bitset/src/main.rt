@@ -1,4 +1,5 @@
 // Runs the bitset reader on a foreign table whose one pair has bits 6 and 7 both set, as no built-in pair has: it inverts
+#![tactic(auto)]
 // first and then shifts right by 4, so that of the numbers 0 to 63 exactly 4 to 59 are in it. Shifting first would add 60 to 63.
 use libc::STDOUT_FILENO;
 

@@ -1,4 +1,5 @@
 // Packs the list that standard input holds as lines key=value, and prints the table, the refusal, or the line that is out of place.
+#![tactic(auto)]
 mod list;
 mod table;
 

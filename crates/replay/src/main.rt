@@ -1,4 +1,5 @@
 // Replays the committed answers of the Rust for every scalar value, and counts those that differ from the library's.
+#![tactic(auto)]
 mod answers;
 mod rows;
 mod section;

@@ -1,8 +1,7 @@
 -- Scalar values: the numbers to 0x10FFFF that are no surrogates. Assumes nothing: these are definitions.
-use Rattle.std.specs.Prelude.{ℕ, Bool, true, false, cond, ◌&&◌, ◌||◌, ltb, leb}
+use Rattle.std.specs.Prelude.{ℕ, Bool, true, false, cond, ◌&&◌, ltb, leb}
 use Rattle.scalar.specs.declared.refusal.Refusal.{Refusal}
 use Rattle.scalar.specs.declared.refusal.Refusal.TheVariants as refusal
-use Rattle.scalar.specs.declared.Scalar.{Scalar}
 use Rattle.scalar.specs.declared.ScalarCheck.{ScalarCheck}
 use Rattle.scalar.specs.declared.ScalarCheck.TheVariants as check
 use Rattle.scalar.specs.declared.Answer.{Answer}

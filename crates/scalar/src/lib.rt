@@ -1,4 +1,6 @@
 // Scalar values: a number type with its limits, the refusals of every entry, and the ASCII tests.
+#![tactic(auto)]
+
 ghost use Rattle.std.specs.Prelude.{◌≡◌};
 ghost use Rattle.scalar.specs.Scalars.{checked, refusal_of, answer_refusal, answer_yes, ascii_digit, ascii_upper, ascii_lower};
 
@@ -34,6 +36,7 @@ impl Scalar {
     pub const LAST_SURROGATE: u32 = 0xDFFF;
 
     // The number as a scalar value; refuses 1, then 2.
+    #[tactic(auto, unfolding(crate::specs::Scalars::scalar_else))]
     pub fn new(n: u32) -> ScalarCheck
         ensures { result ≡ checked n }
     {

@@ -1,11 +1,10 @@
 -- Membership in a list's boundaries is membership in its ranges, for every list whose boundaries rise; and a boundary
 -- past the last number changes nothing. Assumes nothing.
-use Rattle.std.specs.Prelude.{◌≡◌, ℕ, suc, ◌+◌, ◌%◌, ◌<◌, ◌≤◌, Bool, true, false, ◌&&◌, ◌||◌, leb, List, [], ◌∷◌, ◌++◌}
+use Rattle.std.specs.Prelude.{◌≡◌, ℕ, suc, ◌+◌, ◌%◌, ◌<◌, ◌≤◌, Bool, true, false, ◌&&◌, leb, List, [], ◌∷◌, ◌++◌}
 use mathlib.Core.Path.{◌∙◌, refl}
 use mathlib.Core.Logic.{⊎_elim}
 use native.Mathlib.Omega.{arith}
 use borrow.Author.Tests.{le-leb, lt-leb, leb-true}
-use Rattle.scalar.specs.Scalars.{between}
 use Rattle.sets.specs.Boundaries.{count, odd, member}
 use Rattle.sets.specs.Lists.{edges, holds}
 use Rattle.sets.proofs.Decide.{split, and_left, and_right}

@@ -1,7 +1,7 @@
 -- One set, one list: two lists that pass 3 and 5 and hold the same numbers to 0x10FFFF are the same list. Range by range: the
 -- first numbers agree, since each is the least that its list holds, and so do the last ones, since neither list holds the
 -- number after its own. Assumes nothing.
-use Rattle.std.specs.Prelude.{◌≡◌, ℕ, ◌+◌, ◌%◌, ◌<◌, ◌≤◌, true, false, leb, List, [], ◌∷◌, length}
+use Rattle.std.specs.Prelude.{◌≡◌, ℕ, ◌+◌, ◌%◌, ◌<◌, ◌≤◌, true, false, List, [], ◌∷◌, length}
 use mathlib.Core.Path.{◌∙◌, sym, refl}
 use mathlib.Core.Logic.{⊎_elim}
 use native.Mathlib.Omega.{arith}

@@ -1,5 +1,5 @@
 -- Flat lists of ranges: first, last, first, last .. Assumes nothing: these are definitions.
-use Rattle.std.specs.Prelude.{ℕ, ◌+◌, ◌/◌, Bool, true, false, cond, ◌&&◌, ◌||◌, List, [], ◌∷◌, length, nat_le}
+use Rattle.std.specs.Prelude.{ℕ, ◌+◌, ◌/◌, Bool, false, cond, ◌&&◌, ◌||◌, List, [], ◌∷◌, length, nat_le}
 use Rattle.scalar.specs.Scalars.{between}
 
 -- how many ranges a list of number pairs has

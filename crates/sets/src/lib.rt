@@ -1,4 +1,6 @@
 // Flat lists of ranges: the check, and the plain search in the list itself, the yardstick of every other reader.
+#![tactic(auto)]
+
 ghost use Rattle.std.specs.Prelude.{◌≡◌};
 ghost use Rattle.sets.specs.Answers.{list_checked, list_searched, list_refusal, list_ranges};
 

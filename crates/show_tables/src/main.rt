@@ -1,4 +1,5 @@
 // Prints, for each of the three skip tables, what stands in the list that it unpacks to, and how long the table is.
+#![tactic(auto)]
 ghost use Rattle.std.specs.Prelude.{◌≤◌, length};
 
 use libc::STDOUT_FILENO;
