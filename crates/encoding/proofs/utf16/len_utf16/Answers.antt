@@ -1,0 +1,16 @@
+-- `encoding::utf16::len_utf16` meets its contract: a refused check is the answer, and a valid one has its length. Assumes nothing.
+use borrow.Author.Rules.{rules}
+use Rattle.encoding.specs.Tables.{len_utf16}
+use Rattle.encoding.proofs.Entries.{len_refused, len_done}
+use Rattle.encoding.proofs.utf16.len_utf16.Goals as goal
+
+pub returns-in_default : goal.returns-in_default
+returns-in_default c =
+    let told = c in
+    len_refused len_utf16 _
+    (record { made = told.new-check.ensures; told = told.in_default.is; taken = c.refusal.ensures })
+
+pub returns : goal.returns
+returns c =
+    let valid = c in
+    len_done len_utf16 _ (record { made = valid.new-check.ensures; told = valid.in-Valid.is }) c.len_utf16_raw.ensures
