@@ -8,7 +8,8 @@ loop-i-init c = (omega arith, sym (filled_none c.args.ranges.now))
 
 pub loop-i-preserved : goal.loop-i-preserved
 loop-i-preserved c =
-    let r = get_or c.args.ranges.now c.loop-i.i none in
-    (omega arith,
-    ap (λ (l : List ℕ). set (set l (c.loop-i.i * 2) r.first) (c.loop-i.i * 2 + 1) r.last) c.loop-i.invariant.1
-    ∙ filled_more c.args.ranges.now c.loop-i.i (omega arith) (omega arith))
+    let r = get_or c.args.ranges.now c.loop-i.i none in (
+      omega arith,
+      ap (λ (l : List ℕ). set (set l (c.loop-i.i * 2) r.first) (c.loop-i.i * 2 + 1) r.last) c.loop-i.invariant.1
+          ∙ filled_more c.args.ranges.now c.loop-i.i (omega arith) (omega arith),
+    )

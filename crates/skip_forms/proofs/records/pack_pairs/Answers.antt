@@ -1,6 +1,4 @@
-use Rattle.std.proofs.Common.{◌≡◌, refl, arith, List, length, subst, sym}
-use Rattle.pack.specs.Answers.{Packs}
-use Rattle.skip_forms.specs.Records.{flatten}
+use Rattle.std.proofs.Common.{arith}
 use Rattle.skip_forms.proofs.Packed.{many, front}
 use Rattle.skip_forms.proofs.records.pack_pairs.Goals as goal
 
