@@ -1,5 +1,6 @@
 // What crosses the C boundary: each answer as plain numbers in a struct that C can hold.
 #![tactic(auto)]
+
 pub mod crossing;
 
 // Accepted where refusal is 0; else the refusal's number and what it carries.
