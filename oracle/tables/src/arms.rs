@@ -12,7 +12,7 @@ const WORD: Form = Form::Hex(16);
 
 pub enum Arm {
     Number(u64),
-    /// What a pair's mapping makes of its canonical word, left to `bitset::core::mapped`.
+    /// What a pair's mapping makes of its canonical word, left to `bitset::kernel::mapped`.
     Mapped(u8, u64),
 }
 
@@ -51,11 +51,11 @@ pub fn function(says: &str, head: &str, clauses: &[String], arms: &[String], oth
 }
 
 pub fn requires(fact: &str) -> String {
-    format!("requires {{ ⌜ {fact} ⌝ }}")
+    format!("requires {{ {fact} }}")
 }
 
 pub fn ensures(fact: &str) -> String {
-    format!("ensures {{ λ r. ⌜ {fact} ⌝ }}")
+    format!("ensures {{ {fact} }}")
 }
 
 /// The proof of such a function of a crate's file, and its path: what it meets, what it cites, what it opens, an answer for
@@ -104,7 +104,7 @@ impl Accessor {
             format!("{k} => {text}")
         };
         let arms: Vec<String> = self.arms.iter().enumerate().map(arm).collect();
-        let clauses = [requires(self.requires), ensures(&format!("r ≡ {answers} {index}"))];
+        let clauses = [requires(self.requires), ensures(&format!("result ≡ {answers} {index}"))];
         function(says, &format!("{name}({index}: usize) -> u64"), &clauses, &arms, "UNREACHED")
     }
 

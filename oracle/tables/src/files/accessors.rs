@@ -12,18 +12,14 @@ fn answers(arms: usize, arm: &str, other: &str) -> String {
 
 /// What table.rt cites, after its first line.
 pub fn uses(consts: &mut Consts, krate: &str, of_ends: bool) {
-    consts.line("ghost use mathlib.Core.Path.{_≡_};");
-    if of_ends {
-        consts.line("ghost use Prim.Native.Nat.{_<_};");
-        consts.line("ghost use lib.ListN.{length, getD};");
-    }
-    consts.line("ghost use Rattle·casing.specs.Reading.{Says, packed, fourAt, pageOf};");
-    consts.line("ghost use Rattle·casing.specs.Rows.{singles, multis, multiple};");
-    consts.line(&format!("ghost use Rattle·{krate}·specs.specs.Planes as planes;"));
-    consts.line(&format!("ghost use Rattle·{krate}·specs.specs.Table as lists;"));
-    consts.line("use casing::core::Found;");
-    consts.line("use casing::core::Four;");
-    consts.line("use casing::core::Page;");
+    let of_lists = if of_ends { ", ◌<◌, length, slice_index" } else { "" };
+    consts.line(&format!("ghost use Rattle.std.specs.Prelude.{{◌≡◌{of_lists}}};"));
+    consts.line("ghost use Rattle.casing.specs.Reading.{Says, packed, four_at, page_of};");
+    consts.line("ghost use Rattle.casing.specs.Rows.{singles, multis, multiple};");
+    consts.line(&format!("ghost use Rattle.{krate}.specs.Planes as planes;"));
+    consts.line(&format!("ghost use Rattle.{krate}.specs.Table as lists;"));
+    consts.line("");
+    consts.line("use casing::kernel::{Found, Four, Page};");
 }
 
 pub fn rows(consts: &mut Consts, krate: &str, p: usize, plane: &Plane) -> File {
@@ -38,7 +34,7 @@ pub fn rows(consts: &mut Consts, krate: &str, p: usize, plane: &Plane) -> File {
     consts.text_of(&function(
         &format!("plane {p}: four rows to an arm, a row in a word, 16 bits each: delta, step, last number, first number"),
         &format!("rows{p}(i: usize) -> Four"),
-        &[ensures(&format!("r ≡ fourAt (packed (singles planes.plane{p})) i"))],
+        &[ensures(&format!("result ≡ four_at (packed (singles planes.plane{p})) i"))],
         &fours.collect::<Vec<_>>(),
         "Four {\n            a: 0,\n            b: 0,\n            c: 0,\n            d: 0,\n        }",
     ));
@@ -66,7 +62,7 @@ pub fn ends(consts: &mut Consts, krate: &str, p: usize, plane: &Plane) -> File {
     consts.text_of(&function(
         &format!("plane {p}: the last number of each row"),
         &format!("end{p}(i: usize) -> u16"),
-        &[requires(&format!("i < length lists.ends{p}")), ensures(&format!("r ≡ getD lists.ends{p} i 0"))],
+        &[requires(&format!("i < length lists.ends{p}")), ensures(&format!("result ≡ slice_index lists.ends{p} i"))],
         &arms.collect::<Vec<_>>(),
         // no row ends there, so that no arm is merged with this one, which no index reaches
         "0",
@@ -99,11 +95,11 @@ pub fn multis(consts: &mut Consts, krate: &str, p: usize, plane: &Plane) -> File
     consts.text_of(&function(
         &format!("plane {p}: the multi rows"),
         &format!("multi{p}(low: u16) -> Found"),
-        &[ensures(&format!("Says r (multiple (multis planes.plane{p}) {p} low)"))],
+        &[ensures(&format!("Says result (multiple (multis planes.plane{p}) {p} low)"))],
         &arms.collect::<Vec<_>>(),
         "Found::Nothing",
     ));
-    let lists = format!("multi{p} multi{p}First multi{p}Second multi{p}Third");
+    let lists = format!("multi{p} multi{p}_first multi{p}_second multi{p}_third");
     let needs = format!(
         "use Prim.Native.Nat.{{ℕ}}\n\
          use Rattle·sets.proofs.Arms.{{arm}}\n\
@@ -128,7 +124,7 @@ pub fn pages(consts: &mut Consts, krate: &str, p: usize, plane: &Plane) -> File 
     consts.text_of(&function(
         &format!("plane {p}: the single rows of each page that has rows, from the first index to before the second"),
         &format!("page{p}(page: u16) -> Page"),
-        &[ensures(&format!("r ≡ pageOf lists.pages{p} page"))],
+        &[ensures(&format!("result ≡ page_of lists.pages{p} page"))],
         &arms.collect::<Vec<_>>(),
         "Page::Empty",
     ));
