@@ -6,13 +6,12 @@ use Rattle.casing.specs.Rows.{zip, first_row, multiple, multis}
 use Rattle.casing.proofs.Arms.{Unmapped, no_multi}
 use Rattle.casing_lower.specs.Planes.{plane0}
 use Rattle.casing_lower.specs.Table.{multi0, multi0_first, multi0_second, multi0_third}
-use Rattle.casing_lower.proofs.table.multi0.Statement.{statement}
-use Rattle.casing_lower.proofs.table.multi0.Tie as tie
+use Rattle.casing_lower.proofs.table.multi0.Goals as goal
 
-pub multi0-spec : {M : Type 1} → statement M
+pub returns-in-304 : goal.returns-in-304
 unfolding zip first_row multiple Unmapped multi0 multi0_first multi0_second multi0_third
-multi0-spec =
-    tie.close
-    (tie.spec
-    (λ c other. arm (λ (x : ℕ). multiple (multis plane0) 0 x other) c.match.keys1)
-    (λ c. no_multi multi0 multi0_first multi0_second multi0_third 0 _ c.match.rest))
+returns-in-304 c = λ other. arm (λ (x : ℕ). multiple (multis plane0) 0 x other) c.in-304.is
+
+pub returns-in_default : goal.returns-in_default
+unfolding zip first_row multiple Unmapped multi0 multi0_first multi0_second multi0_third
+returns-in_default c = no_multi multi0 multi0_first multi0_second multi0_third 0 _ c.in_default.in_default-own.rest
