@@ -1,6 +1,6 @@
 //! The mappings: rows and multi rows of two planes.
 
-use super::{accessors, snake, of_rust, of_unicode, File, Inputs, DECIMAL, UNICODE_DATA};
+use super::{accessors, of_rust, of_unicode, snake, File, Inputs, DECIMAL, UNICODE_DATA};
 use crate::layout::{wide, Consts, Form, Lists, POINT};
 use crate::{rows, source};
 use reference::counts::{counts, Counts};

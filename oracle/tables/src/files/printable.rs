@@ -1,6 +1,6 @@
 //! Printable: singletons and length lists of two planes.
 
-use super::{snake, list_of_ranges, of_rust, of_unicode, File, Inputs, BYTE, DECIMAL, PRINTABLE};
+use super::{list_of_ranges, of_rust, of_unicode, snake, File, Inputs, BYTE, DECIMAL, PRINTABLE};
 use crate::layout::{wide, Consts, Form, Lists};
 use crate::printable;
 use reference::{lists, ranges::Ranges, scalars};
