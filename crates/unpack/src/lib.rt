@@ -12,7 +12,7 @@ use skip::Checked;
 // An open last pair ends here; boundaries above it list nothing.
 const MAX: u32 = scalar::Scalar::MAX;
 
-#[derive(Drop)]
+#[derive(Clone, Copy)]
 pub enum Unpacked {
     // How many numbers were written, two for each range.
     Done(usize),
@@ -42,7 +42,7 @@ impl Unpacked {
 }
 
 // A boundary, and the run of the offset after it.
-#[derive(Drop)]
+#[derive(Clone, Copy)]
 struct Place {
     at: u32,
     run: usize,
