@@ -26,6 +26,7 @@ pub fn is_printable(n: u32) -> Answer
     Answer::Is(by_tables(s.value))
 }
 
+#[tactic(auto, unfolding(crate::specs::Printable::by_tables))]
 fn by_tables(x: u32) -> bool
     ensures { result ≡ by_tables x }
 {

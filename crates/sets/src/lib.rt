@@ -42,6 +42,7 @@ impl ListCheck {
 }
 
 // Whether a flat list is one of ranges in order, none touching another; refuses 3, 4, then 5.
+#[tactic(auto, unfolding(crate::specs::Answers::list_else))]
 pub fn check_list(list: &[u32]) -> ListCheck
     ensures { result ≡ list_checked list.now }
 {

@@ -1,6 +1,6 @@
 -- One turn of each loop of the checker: what is left of a rule at a place, in terms of the next place. Assumes nothing.
 use Rattle.std.specs.Prelude.{◌≡◌, ℕ, ◌+◌, ◌<◌, ◌≤◌, true, false, cond, ◌&&◌, eqb, ltb, leb, List, [], ◌∷◌, length, get_or, drop}
-use mathlib.Core.Path.{◌∙◌, refl, ap}
+use mathlib.Core.Path.{◌∙◌, refl, sym, ap}
 use borrow.Author.Tests.{lt-ltb, le-ltb, le-leb, lt-leb, eq-eqb, ne_eqb}
 use Rattle.skip.specs.Headers.{start_index, prefix_sum, run_end}
 use Rattle.skip.specs.Rules.{W3, W4, W5}
@@ -69,3 +69,8 @@ module _ (hs os : List ℕ) (n i at k : ℕ) where
     pub W5-on : (i + 1 ≡ run_end n (drop (k + 1) hs) → ⊥)
         → W5 n i at (drop k hs) (drop i os) ≡ W5 n (i + 1) (at + get_or os i 0) (drop k hs) (drop (i + 1) os)
     W5-on e = W5-here ∙ simp (ne_eqb _ _ e)
+
+-- a sum that does not rise breaks W4 as a whole, where what is left of it is the whole
+pub sums_cut : (hs : List ℕ) (low k : ℕ) → W4 0 hs ≡ W4 low (drop k hs) → k < length hs → prefix_sum (get_or hs k 0) < low
+    → false ≡ W4 0 hs
+sums_cut hs low k whole l h = sym (whole ∙ W4-cut hs low k l h)

@@ -83,6 +83,7 @@ pub fn prefix_sum(h: u32) -> u32
 }
 
 // Whether the table keeps the rules W1 to W5; else 8 with the lowest that it breaks.
+#[tactic(auto, unfolding(crate::specs::Answers::table_else))]
 pub fn check(headers: &[u32], offsets: &[u8]) -> Checked
     ensures { result ≡ checks headers.now offsets.now }
 {

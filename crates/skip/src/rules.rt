@@ -50,6 +50,7 @@ pub(crate) fn starts_rise(headers: &[u32], n: usize) -> bool
 }
 
 // W4, on the prefix sums alone: whole header words rise whenever the starts do.
+#[tactic(auto, using(crate::proofs::Steps::sums_cut))]
 pub(crate) fn sums_rise(headers: &[u32]) -> bool
     ensures { result ≡ W4 0 headers.now }
 {

@@ -6,9 +6,6 @@ use Rattle.encoding.proofs.Bits.{lowest}
 use Rattle.encoding.proofs.Stores.{stored}
 use Rattle.encoding.proofs.utf8.write_two.Goals as goal
 
-pub bounds-out-1 : goal.bounds-out-1
-bounds-out-1 c = simp length-set (omega arith)
-
 pub shape_of-out : goal.shape_of-out
 shape_of-out c = simp length-set
 

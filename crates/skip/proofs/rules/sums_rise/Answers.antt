@@ -11,13 +11,6 @@ use Rattle.skip.proofs.rules.sums_rise.Goals as goal
 pub loop-k-init : goal.loop-k-init
 loop-k-init c = (search rules, refl)
 
-pub returns-then-sum-low : goal.returns-then-sum-low
-returns-then-sum-low c =
-    let hs = c.args.headers.now in
-    let turn = c.loop-k in
-    let h : prefix_sum (get_or hs turn.k 0) < turn.low = omega arith in
-    sym (turn.invariant.1 ∙ W4-cut hs turn.low turn.k c.loop-k-test.true h)
-
 pub loop-k-preserved : goal.loop-k-preserved
 loop-k-preserved c =
     let hs = c.args.headers.now in
