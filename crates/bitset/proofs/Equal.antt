@@ -1,7 +1,6 @@
 -- A bitset equals a flat list at every number, by three computed tests: its bits change at the list's boundaries, the
 -- boundaries rise, and the list ends before the map does. Past the map's end both say no. Assumes nothing.
-use Rattle.std.specs.Prelude.{◌≡◌, ℕ, ◌+◌, ◌*◌, ◌/◌, ◌%◌, ◌^◌, ◌<◌, ◌≤◌, Bool, true, false, not, eqb, List, [], ◌∷◌, length}
-use Prim.Native.Nat.{zero-le}
+use Rattle.std.specs.Prelude.{◌≡◌, ℕ, ◌+◌, ◌*◌, ◌/◌, ◌%◌, ◌^◌, ◌<◌, ◌≤◌, Bool, true, false, eqb, List, [], ◌∷◌, length}
 use mathlib.Core.Path.{refl, sym, ap, ◌∙◌}
 use mathlib.Core.Logic.{⊎_elim}
 use native.Mathlib.Nat.{zero-div}
@@ -12,7 +11,7 @@ use Rattle.sets.proofs.Decide.{split}
 use Rattle.sets.proofs.Members.{rising, rising_on, none_below}
 use Rattle.bitset.specs.Bitsets.{Bitset, bit, bucket_word, contains, all_below}
 use Rattle.bitset.proofs.Tables.{in_map, past_map, below_head, below_tail}
-use Rattle.bitset.proofs.Scan.{says, says_in, says_out, places, decides}
+use Rattle.bitset.proofs.Scan.{says, places, decides}
 
 -- the places of a list say what its ranges hold
 says_holds : (m p : ℕ) (l : List ℕ) → rising p (edges l) ≡ true → says false (edges l) m ≡ holds l m

@@ -1,7 +1,7 @@
 -- A word below 2^64 rotated left by k < 64 is its two shifts put together: the left one leaves the low k bits empty, and
 -- the right one fills no others. Assumes nothing.
 use Rattle.std.specs.Prelude.{◌≡◌, ℕ, ◌+◌, ◌-◌, ◌*◌, ◌/◌, ◌%◌, ◌^◌, ◌<◌}
-use mathlib.Core.Path.{◌∙◌, sym, ap, refl, subst}
+use mathlib.Core.Path.{◌∙◌, sym, refl, subst}
 use native.Mathlib.Omega.{arith}
 use native.Mathlib.Nat.{mul-one, add-zero, add_comm, div-eq_of_lt, mod-eq_of_lt, mul-mod_left}
 use lib.Bits.{bit_or, or_shifted}

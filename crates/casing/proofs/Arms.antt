@@ -1,6 +1,6 @@
 -- What the default of a `match` over fours of rows, over pages or over multi rows knows: the number is none of the arms'. And the row among the four
 -- that hold it. Assumes nothing.
-use Rattle.std.proofs.Common.{◌≡◌, ℕ, ◌+◌, ◌*◌, ◌/◌, ◌%◌, ◌≤◌, cond, eqb, List, [], ◌∷◌, length, get_or, sym, refl, ap, arith, ne_eqb}
+use Rattle.std.proofs.Common.{◌≡◌, ℕ, ◌+◌, ◌*◌, ◌/◌, ◌%◌, ◌≤◌, List, [], ◌∷◌, length, get_or, sym, refl, ap, arith, ne_eqb}
 use lib.ListN.{get_or-eq_default}
 use Rattle.sets.proofs.Arms.{NoneBelow, none_below}
 use Rattle.casing.specs.declared.kernel.Four.{Four}

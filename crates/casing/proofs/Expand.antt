@@ -1,11 +1,11 @@
 -- Packed rows written out, a row of four numbers for each number that they map, in a form that computes; looking a number up
 -- in what is written out gives what the packed rows say. Lists are joined by `merge`, which keeps the order and prefers its
 -- first list: a lookup in it is one in the first, and where that has none in the second. Assumes nothing.
-use Rattle.std.proofs.Common.{◌≡◌, ℕ, zero, suc, ◌+◌, ◌-◌, ◌*◌, ◌%◌, ◌<◌, ◌≤◌, Bool, true, false, cond, not, ◌&&◌, ◌||◌, eqb, ltb, leb, ◌⊎◌, List, [], ◌∷◌, ◌++◌, sym, refl, ap, ◌∙◌, inl, inr, ⊎_elim, arith, ltb-false, ltb-true, eq-eqb, ne_eqb, eqb-true, le-leb, leb-true}
-use borrow.Author.Tests.{eqb-false, lt-leb}
+use Rattle.std.proofs.Common.{◌≡◌, ℕ, zero, suc, ◌+◌, ◌-◌, ◌%◌, ◌<◌, ◌≤◌, Bool, true, false, cond, not, ◌&&◌, ◌||◌, eqb, ltb, leb, ◌⊎◌, List, [], ◌∷◌, ◌++◌, sym, refl, ap, ◌∙◌, inl, inr, ⊎_elim, arith, ltb-true, eq-eqb, ne_eqb, eqb-true, le-leb, leb-true}
+use borrow.Author.Tests.{lt-leb}
 use Rattle.sets.proofs.Decide.{split, same, and_left, and_right}
 use Rattle.casing.specs.declared.Mapping.{Mapping}
-use Rattle.casing.specs.Rows.{Row, first_row, covers, in_plane_or0}
+use Rattle.casing.specs.Rows.{Row, first_row, covers}
 
 abbrev pub force : {A : Type 0} → ℕ → (ℕ → A) → A
 force zero k = k zero

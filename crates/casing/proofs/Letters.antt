@@ -1,6 +1,6 @@
 -- What stands under the rows: ASCII letters as one row of 26, written out, give what the ASCII functions give; and the four ways
 -- through a mapping's code are the four cases of its definition. Assumes nothing.
-use Rattle.std.proofs.Common.{◌≡◌, ℕ, ◌+◌, ◌-◌, ◌/◌, ◌%◌, ◌<◌, ◌≤◌, Bool, true, false, cond, not, ◌&&◌, eqb, ltb, leb, List, [], ◌∷◌, sym, refl, ◌∙◌, ⊎_elim, arith, le-ltb, lt-ltb, eq-eqb, ne_eqb, leb-true}
+use Rattle.std.proofs.Common.{◌≡◌, ℕ, ◌+◌, ◌-◌, ◌/◌, ◌%◌, ◌<◌, ◌≤◌, Bool, true, false, cond, ◌&&◌, leb, List, [], ◌∷◌, sym, refl, ◌∙◌, ⊎_elim, arith, le-ltb, lt-ltb, eq-eqb, ne_eqb, leb-true}
 use Rattle.scalar.specs.Scalars.{between}
 use Rattle.sets.proofs.Decide.{same, and_left, and_right}
 use Rattle.casing.specs.declared.Mapping.{Mapping}

@@ -1,6 +1,6 @@
 -- The row that halving finds decides what the rows say: no other row holds the number, so it is the first that fits, or
 -- none does. Assumes nothing.
-use Rattle.std.proofs.Common.{◌≡◌, ℕ, zero, suc, ◌%◌, ◌<◌, ◌≤◌, Bool, true, false, cond, ◌&&◌, eqb, leb, List, [], ◌∷◌, length, get_or, refl, ap, ◌∙◌, ⊎_elim, arith, ne_eqb, eqb-true, le-leb}
+use Rattle.std.proofs.Common.{◌≡◌, ℕ, zero, suc, ◌<◌, Bool, true, false, ◌&&◌, eqb, List, [], ◌∷◌, length, get_or, refl, ap, ◌∙◌, ⊎_elim, arith, ne_eqb, eqb-true, le-leb}
 use Rattle.scalar.specs.Scalars.{between}
 use Rattle.sets.proofs.Decide.{same, and_left, and_right, and_not_left}
 use Rattle.casing.specs.declared.Mapping.{Mapping}

@@ -1,6 +1,6 @@
 -- Rows that are sorted and disjoint: each start lies above every end before it, so that at most one row holds a number,
 -- and the first that does not end below the number is that one. Assumes nothing.
-use Rattle.std.proofs.Common.{◌≡◌, ℕ, zero, suc, ◌<◌, ◌≤◌, Bool, true, false, ◌&&◌, leb, List, [], ◌∷◌, length, get_or, sym, refl, ◌∙◌, ⊎_elim, arith, le-leb, leb-true}
+use Rattle.std.proofs.Common.{◌≡◌, ℕ, zero, suc, ◌<◌, ◌≤◌, Bool, true, false, ◌&&◌, leb, List, [], ◌∷◌, length, get_or, refl, ⊎_elim, arith, leb-true}
 use borrow.Author.Tests.{lt-leb}
 use Rattle.scalar.specs.Scalars.{between}
 use Rattle.sets.proofs.Decide.{split, and_left, and_right}

@@ -1,8 +1,8 @@
 -- A whole mapping: the packed rows of two planes over what stands under them (ASCII letters, or another mapping's list), from
 -- a floor on. Written out they are one list; if that list is Unicode's, and a few tests hold, the mapping is what Unicode's
 -- list says of every number. The argument is made here once, and each mapping cites it. Assumes nothing.
-use Rattle.std.proofs.Common.{◌≡◌, ℕ, ◌+◌, ◌-◌, ◌/◌, ◌%◌, ◌<◌, ◌≤◌, Bool, true, not, ◌&&◌, eqb, ltb, ◌⊎◌, List, ◌++◌, sym, refl, ap, ◌∙◌, inl, inr, ⊎_elim, arith, le-ltb, lt-ltb, eq-eqb, ne_eqb}
-use Rattle.sets.proofs.Decide.{split, same, and_left, and_right}
+use Rattle.std.proofs.Common.{◌≡◌, ℕ, ◌/◌, ◌%◌, ◌<◌, ◌≤◌, Bool, true, ◌&&◌, ◌⊎◌, List, ◌++◌, sym, refl, ap, ◌∙◌, inl, inr, ⊎_elim, arith, le-ltb, lt-ltb, eq-eqb, ne_eqb}
+use Rattle.sets.proofs.Decide.{split, and_left, and_right}
 use Rattle.casing.specs.declared.Mapping.{Mapping}
 use Rattle.casing.specs.Answers.{made}
 use Rattle.casing.specs.Rows.{Rows, Row, single, multiple, singles, multis, looked, in_rows, from_floor}

@@ -1,5 +1,6 @@
 // The mapping answer, the ASCII letters, and the row reader that the three mappings share.
 #![tactic(auto)]
+
 ghost use Rattle.std.specs.Prelude.{◌≡◌};
 ghost use Rattle.casing.specs.Answers.{refused, Used, made};
 

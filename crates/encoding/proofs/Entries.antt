@@ -1,7 +1,7 @@
 -- The promises of the entries, from what their steps give: a refused check, a short buffer, a buffer that was written.
 -- One set of laws for both encodings: `units` is the encoding and `len` its length. Assumes nothing.
 use Prim.Native.Nat.{ℕ, ◌≤◌, ◌<◌}
-use mathlib.Core.Path.{◌≡◌, ◌∙◌, sym, ap, refl}
+use mathlib.Core.Path.{◌≡◌, ◌∙◌, sym, ap}
 use mathlib.Core.Bool.{cond}
 use mathlib.Core.List.{List}
 use lib.Dec.{ltb}

@@ -1,5 +1,5 @@
 -- A run of stores from the front of a buffer leaves the new elements over the old. Assumes nothing.
-use Prim.Native.Nat.{ℕ, ◌≤◌, ◌+◌}
+use Prim.Native.Nat.{ℕ, ◌≤◌}
 use mathlib.Core.Path.{◌≡◌, ◌∙◌, refl}
 use mathlib.Core.List.{List}
 use native.Mathlib.Nat.{zero-add}

@@ -1,5 +1,6 @@
 // UTF-8 and UTF-16 of one scalar value: its length, and its encoding into a lent buffer.
 #![tactic(auto)]
+
 ghost use Rattle.std.specs.Prelude.{◌≡◌};
 ghost use Rattle.encoding.specs.Lengths.{length_refusal, length_units};
 

@@ -1,5 +1,6 @@
 // Skip tables: header words, the checker, and the search, plain or with its read count.
 #![tactic(auto)]
+
 ghost use Rattle.std.specs.Prelude.{◌≡◌};
 ghost use Rattle.skip.specs.Headers.{start_index, prefix_sum};
 ghost use Rattle.skip.specs.Answers.{checks, searches, finds, check_refusal, found_refusal, found_yes, found_read};

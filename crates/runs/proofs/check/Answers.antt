@@ -1,5 +1,4 @@
 -- `runs::check` meets its contract: each return rewrites with what the singletons say. Assumes nothing.
-use borrow.Author.Rules.{rules}
 use mathlib.Core.Path.{refl}
 use Rattle.runs.proofs.check.Goals as goal
 

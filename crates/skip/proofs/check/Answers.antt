@@ -1,7 +1,6 @@
 -- `skip::check` meets its contract: the lowest broken rule is 0, or it is carried. Assumes nothing.
 use Rattle.std.specs.Prelude.{◌≡◌}
 use native.Mathlib.Omega.{arith}
-use borrow.Author.Rules.{rules}
 use Rattle.skip.specs.Rules.{broken}
 use Rattle.skip.proofs.Answers.{table_good, table_refused}
 use Rattle.skip.proofs.check.Goals as goal

@@ -3,7 +3,6 @@
 use Rattle.std.specs.Prelude.{◌<◌, ◌≤◌}
 use mathlib.Core.Path.{◌∙◌, sym, ap}
 use native.Mathlib.Omega.{arith}
-use borrow.Author.Rules.{rules}
 use borrow.Author.Tests.{le-ltb, lt-ltb}
 use Rattle.skip.specs.Answers.{check_refusal}
 use Rattle.scalar.specs.declared.Answer.TheVariants as answer

@@ -1,7 +1,6 @@
 -- `bitset::kernel::mapped` meets its contract: it turns what it inverted. Assumes nothing.
 use mathlib.Core.Path.{◌∙◌, ap}
 use Rattle.bitset.specs.Bitsets.{turned}
-use borrow.Author.Rules.{rules}
 use Rattle.bitset.proofs.kernel.mapped.Goals as goal
 
 pub returns : goal.returns

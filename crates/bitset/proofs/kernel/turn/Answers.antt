@@ -1,7 +1,6 @@
 -- `bitset::kernel::turn` meets its contract: each return rewrites with the test that led there. Assumes nothing.
 use mathlib.Core.Path.{◌∙◌}
 use borrow.Author.Tests.{eq-eqb, ne_eqb}
-use borrow.Author.Rules.{rules}
 use Rattle.bitset.proofs.kernel.turn.Goals as goal
 
 pub returns-then-mapping-eq1 : goal.returns-then-mapping-eq1

@@ -4,25 +4,23 @@ use mathlib.Core.Path.{◌∙◌, refl}
 use Rattle.std.specs.Prelude.{◌-◌, ◌<◌, length}
 use Rattle.bitset.proofs.Tables.{below_read, canonical_at, pair_at}
 use native.Mathlib.Omega.{arith}
-use borrow.Author.Rules.{rules}
 use Rattle.bitset.proofs.kernel.word_at.Goals as goal
 
 pub returns-then-index-canonical : goal.returns-then-index-canonical
 returns-then-index-canonical c = canonical_at _ _ _ _ c.if-index-canonical.true
 
--- the pair's word is a canonical word
-word-inside : (c : tie.After-wide) → c.wide.result < length c.args.canonical.now
-word-inside c =
-    let s = c in
-    let can = s.args.canonical.now in
-    let p : s.args.index - length can < length s.args.real.now = omega arith in
-    below_read (length can) s.args.real.now (s.args.index - length can) s.requires.1 p c.wide.ensures
-
 pub offset_bounds-canonical-wide : goal.offset_bounds-canonical-wide
-offset_bounds-canonical-wide c = omega (arith, word-inside c)
+-- the pair's word is a canonical word
+offset_bounds-canonical-wide c =
+    let can = c.args.canonical.now in
+    let p : c.args.index - length can < length c.args.real.now = omega arith in
+    omega (arith, below_read (length can) c.args.real.now (c.args.index - length can) c.requires.1 p c.wide.ensures)
 
 pub bounds-canonical-wide : goal.bounds-canonical-wide
-bounds-canonical-wide c = word-inside c
+bounds-canonical-wide c =
+    let can = c.args.canonical.now in
+    let p : c.args.index - length can < length c.args.real.now = omega arith in
+    below_read (length can) c.args.real.now (c.args.index - length can) c.requires.1 p c.wide.ensures
 
 pub returns : goal.returns
 returns c =

@@ -1,5 +1,5 @@
 -- `casing::Mapping::new` meets its contract: the three numbers with their count. Assumes nothing.
-use Rattle.std.proofs.Common.{refl, rules}
+use Rattle.std.proofs.Common.{refl}
 use Rattle.casing.specs.Answers.{made}
 use Rattle.casing.proofs.Answers.{used_is}
 use Rattle.casing.proofs.Mapping.new.Goals as goal

@@ -1,5 +1,5 @@
 -- `casing::ascii::to_ascii_lowercase` meets its contract: the test bounds the number, so that the sum fits. Assumes nothing.
-use Rattle.std.proofs.Common.{leb, sym, ◌∙◌, arith, rules, leb-true}
+use Rattle.std.proofs.Common.{leb, sym, ◌∙◌, arith, leb-true}
 use Rattle.sets.proofs.Decide.{and_right}
 use Rattle.casing.proofs.ascii.to_ascii_lowercase.Goals as goal
 

@@ -1,5 +1,5 @@
 -- `casing::ascii::to_ascii_uppercase` meets its contract: the test bounds the number, so that the difference is right. Assumes nothing.
-use Rattle.std.proofs.Common.{leb, sym, ◌∙◌, arith, rules, leb-true}
+use Rattle.std.proofs.Common.{leb, sym, ◌∙◌, arith, leb-true}
 use Rattle.sets.proofs.Decide.{and_left}
 use Rattle.casing.proofs.ascii.to_ascii_uppercase.Goals as goal
 

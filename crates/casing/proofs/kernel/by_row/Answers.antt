@@ -1,6 +1,6 @@
 -- `casing::kernel::by_row` meets its contract: its callees give the four fields of the word, and the row covers the number or not.
 -- Assumes nothing.
-use Rattle.std.proofs.Common.{sym, ◌∙◌, rules}
+use Rattle.std.proofs.Common.{sym, ◌∙◌}
 use Rattle.casing.proofs.Pages.{word_moves, word_leaves}
 use Rattle.casing.proofs.kernel.by_row.Goals as goal
 

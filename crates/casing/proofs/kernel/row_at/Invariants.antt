@@ -1,6 +1,6 @@
 -- `casing::kernel::row_at` meets its contract, by the laws of halving; the measure is what lies between lo and hi. Assumes nothing.
-use Rattle.std.proofs.Common.{◌+◌, ◌-◌, ◌/◌, arith, rules}
-use Rattle.casing.proofs.Halving.{Halving, begin, move_lo, move_hi, met}
+use Rattle.std.proofs.Common.{◌-◌}
+use Rattle.casing.proofs.Halving.{Halving}
 use Rattle.casing.proofs.kernel.row_at.Given as goal
 
 abbrev pub invariant-loop-lo : goal.invariant-loop-lo

@@ -4,13 +4,13 @@ use Rattle.std.proofs.Common.{arith}
 use Rattle.casing.proofs.kernel.row_of.Goals as goal
 
 pub returns-in-0 : goal.returns-in-0
-returns-in-0 c = λ words e. first_of _ _ words e c.in-0.keys1
+returns-in-0 c = λ words e. first_of _ _ words e c.in-0.is
 
 pub returns-in-1 : goal.returns-in-1
-returns-in-1 c = λ words e. second_of _ _ words e c.in-0.keys2
+returns-in-1 c = λ words e. second_of _ _ words e c.in-1.is
 
 pub returns-in-2 : goal.returns-in-2
-returns-in-2 c = λ words e. third_of _ _ words e c.in-0.keys3
+returns-in-2 c = λ words e. third_of _ _ words e c.in-2.is
 
 pub returns-in_default : goal.returns-in_default
-returns-in_default c = λ words e. fourth_of _ _ words e (let r = c.in-0.rest in let x = r.1 in let y = r.0.1 in let z = r.0.0.1 in omega arith)
+returns-in_default c = λ words e. fourth_of _ _ words e (omega arith)

@@ -1,6 +1,5 @@
 -- `encoding::utf16::encode_utf16` meets its contract: a refused check, a short buffer and a written one each give the promise. Assumes nothing.
 use native.Mathlib.Omega.{arith}
-use borrow.Author.Rules.{rules}
 use Rattle.encoding.specs.Tables.{len_utf16, utf16}
 use Rattle.encoding.proofs.Tables.{utf16_length}
 use Rattle.encoding.proofs.Entries.{accepted_inside, encode_refused, encode_short, encode_done}

@@ -1,7 +1,6 @@
 -- `encoding::utf16::encode_utf16_raw` meets its contract: each branch writes the row that its test names. Assumes nothing.
 use Prim.Native.Nat.{ℕ}
 use native.Mathlib.Omega.{arith}
-use borrow.Author.Rules.{rules}
 use Rattle.encoding.specs.Tables.{utf16}
 use Rattle.encoding.proofs.Rows.{row16_one, row16_two}
 use Rattle.encoding.proofs.utf16.encode_utf16_raw.Goals as goal

@@ -1,5 +1,4 @@
 -- `encoding::utf16::len_utf16` meets its contract: a refused check is the answer, and a valid one has its length. Assumes nothing.
-use borrow.Author.Rules.{rules}
 use Rattle.encoding.specs.Tables.{len_utf16}
 use Rattle.encoding.proofs.Entries.{len_refused, len_done}
 use Rattle.encoding.proofs.utf16.len_utf16.Goals as goal

@@ -1,7 +1,6 @@
 -- `encoding::utf16::write_pair` meets its contract: the stores are the row of the table. Assumes nothing.
 use Prim.Native.Nat.{◌-◌, ◌%◌}
 use mathlib.Core.Path.{◌≡◌}
-use borrow.Author.Rules.{rules}
 use native.Mathlib.Omega.{arith}
 use lib.ListN.{length-set}
 use Rattle.encoding.specs.Tables.{bits, two_units}

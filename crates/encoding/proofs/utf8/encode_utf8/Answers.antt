@@ -1,5 +1,4 @@
 -- `encoding::utf8::encode_utf8` meets its contract: a refused check, a short buffer and a written one each give the promise. Assumes nothing.
-use borrow.Author.Rules.{rules}
 use Rattle.encoding.specs.Tables.{len_utf8, utf8}
 use Rattle.encoding.proofs.Tables.{utf8_length}
 use Rattle.encoding.proofs.Entries.{encode_refused, encode_short, encode_done}

@@ -1,7 +1,6 @@
 -- `encoding::utf8::encode_utf8_raw` meets its contract: each branch writes the row that its tests name. Assumes nothing.
 use Prim.Native.Nat.{ℕ}
 use native.Mathlib.Omega.{arith}
-use borrow.Author.Rules.{rules}
 use Rattle.encoding.specs.Tables.{utf8}
 use Rattle.encoding.proofs.Rows.{row8_one, row8_two, row8_three, row8_four}
 use Rattle.encoding.proofs.utf8.encode_utf8_raw.Goals as goal

@@ -1,5 +1,4 @@
 -- `encoding::utf8::write_one` meets its contract: the store is the row of the table. Assumes nothing.
-use borrow.Author.Rules.{rules}
 use Rattle.encoding.specs.Tables.{one_byte}
 use Rattle.encoding.proofs.Bits.{lowest}
 use Rattle.encoding.proofs.Stores.{stored}

@@ -1,5 +1,4 @@
 -- `encoding::utf8::write_two` meets its contract: the stores are the row of the table. Assumes nothing.
-use borrow.Author.Rules.{rules}
 use native.Mathlib.Omega.{arith}
 use lib.ListN.{length-set}
 use Rattle.encoding.specs.Tables.{two_bytes}

@@ -3,7 +3,6 @@
 use Prim.Native.Nat.{◌+◌}
 use native.Mathlib.Omega.{arith}
 use borrow.Author.Tests.{le-ltb, lt-ltb, le-leb, lt-leb}
-use borrow.Author.Rules.{rules}
 use Rattle.runs.proofs.length_list.length_at.Goals as goal
 
 pub returns-then-bytes-at : goal.returns-then-bytes-at

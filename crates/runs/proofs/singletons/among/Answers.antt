@@ -1,10 +1,7 @@
 -- `runs::singletons::among` meets its contract. The invariant: the byte is among all exactly if it is among those left.
 -- The measure is what is left. Assumes nothing.
-use Prim.Native.Nat.{◌≤◌, ◌-◌}
-use mathlib.Core.Path.{◌≡◌, ◌∙◌, sym, refl}
+use mathlib.Core.Path.{◌∙◌, sym, refl}
 use borrow.Author.Rules.{rules}
-use lib.ListN.{length, drop}
-use Rattle.runs.specs.Singletons as specs
 use Rattle.runs.proofs.Pairs.{among_here, among_on, among_none}
 use Rattle.runs.proofs.singletons.among.Goals as goal
 

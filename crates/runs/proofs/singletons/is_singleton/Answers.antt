@@ -1,10 +1,7 @@
 -- `runs::singletons::is_singleton` meets its contract. The invariant: all pairs list the byte pair exactly if those left
 -- do, with the low bytes left. The measure is the pairs left. Assumes nothing.
-use Prim.Native.Nat.{◌≤◌, ◌-◌}
-use mathlib.Core.Path.{◌≡◌, ◌∙◌, sym, refl}
-use lib.ListN.{length}
-use Rattle.runs.specs.Singletons.{listed}
-use Rattle.runs.proofs.Pairs.{left, no_high, no_count, turn_yes, turn_no}
+use mathlib.Core.Path.{◌∙◌, sym, refl}
+use Rattle.runs.proofs.Pairs.{no_high, no_count, turn_yes, turn_no}
 use borrow.Author.Rules.{rules}
 use Rattle.runs.proofs.singletons.is_singleton.Goals as goal
 
@@ -24,7 +21,7 @@ returns-then-pair_lists c =
     let turn = ended in
     let a = turn.args in
     turn_yes a.highs.now a.counts.now a.lows.now _ _ turn.loop-k.k turn.loop-k.start
-    ended.loop-k-test.true ended.if-counts-k.false turn.loop-k.invariant.0 ended.end_of_lem.ensures.0
+    ended.loop-k-test.true ended.if-counts-k.false turn.loop-k.invariant.0 ended.end_of-end.ensures.0
     c.pair_lists.ensures c.if-pair_lists.true
     ∙ sym turn.loop-k.invariant.2
 
@@ -33,10 +30,10 @@ loop-k-preserved c =
     let ended = c in
     let turn = ended in
     let a = turn.args in (
-      ended.end_of_lem.ensures.2,
+      ended.end_of-end.ensures.2,
       search rules,
       turn.loop-k.invariant.2 ∙ turn_no a.highs.now a.counts.now a.lows.now _ _ turn.loop-k.k turn.loop-k.start
-          ended.loop-k-test.true ended.if-counts-k.false turn.loop-k.invariant.0 ended.end_of_lem.ensures.0
+          ended.loop-k-test.true ended.if-counts-k.false turn.loop-k.invariant.0 ended.end_of-end.ensures.0
           c.pair_lists.ensures c.if-pair_lists.false,
     )
 

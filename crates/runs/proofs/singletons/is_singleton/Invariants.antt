@@ -1,11 +1,10 @@
 -- `runs::singletons::is_singleton` meets its contract. The invariant: all pairs list the byte pair exactly if those left
 -- do, with the low bytes left. The measure is the pairs left. Assumes nothing.
 use Prim.Native.Nat.{◌≤◌, ◌-◌}
-use mathlib.Core.Path.{◌≡◌, ◌∙◌, sym, refl}
+use mathlib.Core.Path.{◌≡◌}
 use lib.ListN.{length}
 use Rattle.runs.specs.Singletons.{listed}
-use Rattle.runs.proofs.Pairs.{left, no_high, no_count, turn_yes, turn_no}
-use borrow.Author.Rules.{rules}
+use Rattle.runs.proofs.Pairs.{left}
 use Rattle.runs.proofs.singletons.is_singleton.Given as goal
 
 abbrev pub invariant-loop-k : goal.invariant-loop-k

@@ -1,5 +1,4 @@
 -- `runs::singletons::pair_lists` meets its contract: each return rewrites with the test that led there. Assumes nothing.
-use borrow.Author.Rules.{rules}
 use borrow.Author.Tests.{eq-eqb, ne_eqb}
 use Rattle.runs.proofs.singletons.pair_lists.Goals as goal
 

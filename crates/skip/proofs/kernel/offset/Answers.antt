@@ -1,6 +1,5 @@
 -- `skip::kernel::offset` meets its contract: it reads a byte, and a byte is at most 255. Assumes nothing.
 use native.Mathlib.Omega.{arith}
-use borrow.Author.Rules.{rules}
 use mathlib.Core.Path.{refl}
 use Rattle.skip.proofs.kernel.offset.Goals as goal
 

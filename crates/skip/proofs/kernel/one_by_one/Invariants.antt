@@ -1,12 +1,8 @@
 -- `skip::kernel::one_by_one` meets its contract. The invariant: the place that is sought is the same from i on, where the sum
 -- so far, `at`, has not passed x. The measure is what is left to `last`. Assumes nothing.
 use Rattle.std.specs.Prelude.{◌≡◌, ◌+◌, ◌-◌, ◌≤◌}
-use mathlib.Core.Path.{◌∙◌, sym, refl}
-use native.Mathlib.Omega.{arith}
-use borrow.Author.Rules.{rules}
 use lib.Seq.{slice}
 use Rattle.skip.specs.Seek.{upto}
-use Rattle.skip.proofs.Turn.{turn_in, turn_out, turn_end}
 use Rattle.skip.proofs.kernel.one_by_one.Given as goal
 
 abbrev pub invariant-loop-i : goal.invariant-loop-i

@@ -1,7 +1,6 @@
 -- `skip::kernel::run_end` meets its contract: the next header is there, or it is not. Assumes nothing.
 use Rattle.std.specs.Prelude.{◌+◌}
 use mathlib.Core.Path.{◌∙◌, sym}
-use borrow.Author.Rules.{rules}
 use Rattle.skip.proofs.Steps.{next_in, next_out}
 use Rattle.skip.proofs.kernel.run_end.Goals as goal
 

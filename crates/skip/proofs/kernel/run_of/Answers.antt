@@ -1,11 +1,10 @@
 -- `skip::kernel::run_of` meets its contract. The invariant: every sum before `lo` is at most x, the one at `hi` is above it; W4
 -- carries a test at the middle to all before it. The measure is hi - lo. Assumes nothing.
-use Rattle.std.specs.Prelude.{◌≡◌, ℕ, ◌+◌, ◌-◌, ◌/◌, ◌<◌, ◌≤◌, length, get_or}
+use Rattle.std.specs.Prelude.{◌≡◌, ◌+◌, ◌-◌, ◌/◌}
 use mathlib.Core.Logic.{⊎_elim}
 use native.Mathlib.Nat.{eq-or-lt_of_le}
 use native.Mathlib.Omega.{arith}
 use borrow.Author.Rules.{rules}
-use Rattle.skip.specs.Headers.{prefix_sum}
 use Rattle.skip.proofs.Sums.{sums_mono, last_high}
 use Rattle.skip.proofs.kernel.run_of.Goals as goal
 

@@ -1,5 +1,4 @@
 -- `skip::kernel::skip_search` meets its contract: where the search stops, its parity is the answer. Assumes nothing.
-use borrow.Author.Rules.{rules}
 use Rattle.skip.proofs.kernel.skip_search.Goals as goal
 
 pub returns : goal.returns

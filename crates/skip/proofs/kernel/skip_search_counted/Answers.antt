@@ -1,6 +1,5 @@
 -- `skip::kernel::skip_search_counted` meets its contract: where the search stops gives the answer and the count. Assumes nothing.
 use native.Mathlib.Omega.{arith}
-use borrow.Author.Rules.{rules}
 use Rattle.skip.proofs.kernel.skip_search_counted.Goals as goal
 
 pub returns-then-stop : goal.returns-then-stop

@@ -2,7 +2,6 @@
 use Rattle.std.specs.Prelude.{◌≡◌, ℕ, zero, suc, ◌-◌, ◌<◌, List, get_or}
 use mathlib.Core.Path.{◌∙◌, refl}
 use native.Mathlib.Omega.{arith}
-use borrow.Author.Rules.{rules}
 use Rattle.skip.specs.Seek.{prev}
 use Rattle.skip.specs.Headers.{prefix_sum}
 use Rattle.skip.proofs.kernel.sum_before.Goals as goal

@@ -1,10 +1,9 @@
 -- `skip::rules::starts_rise` meets its contract. The invariant: what is left of W3 from header k on is the whole. The measure
 -- is the headers left. Assumes nothing.
-use Rattle.std.specs.Prelude.{◌≡◌, ◌+◌, ◌-◌, ◌<◌, ◌≤◌, length, get_or, drop}
+use Rattle.std.specs.Prelude.{◌+◌, ◌<◌, ◌≤◌, get_or, drop}
 use mathlib.Core.Path.{◌∙◌, sym, refl}
 use native.Mathlib.Omega.{arith}
 use borrow.Author.Rules.{rules}
-use Rattle.skip.specs.Rules.{W3}
 use Rattle.skip.specs.Headers.{start_index, run_end}
 use Rattle.skip.proofs.Steps.{W3-more, W3-cut, W3-end}
 use Rattle.skip.proofs.rules.starts_rise.Goals as goal

@@ -1,12 +1,7 @@
 -- `skip::rules::starts_rise` meets its contract. The invariant: what is left of W3 from header k on is the whole. The measure
 -- is the headers left. Assumes nothing.
-use Rattle.std.specs.Prelude.{◌≡◌, ◌+◌, ◌-◌, ◌<◌, ◌≤◌, length, get_or, drop}
-use mathlib.Core.Path.{◌∙◌, sym, refl}
-use native.Mathlib.Omega.{arith}
-use borrow.Author.Rules.{rules}
+use Rattle.std.specs.Prelude.{◌≡◌, ◌-◌, ◌≤◌, length, drop}
 use Rattle.skip.specs.Rules.{W3}
-use Rattle.skip.specs.Headers.{start_index, run_end}
-use Rattle.skip.proofs.Steps.{W3-more, W3-cut, W3-end}
 use Rattle.skip.proofs.rules.starts_rise.Given as goal
 
 abbrev pub invariant-loop-k : goal.invariant-loop-k

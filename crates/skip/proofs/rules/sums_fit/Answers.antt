@@ -1,10 +1,9 @@
 -- `skip::rules::sums_fit` meets its contract. The invariant: what is left of W5 at offset i of run k, with `at` the sum so
 -- far, is the whole; `at` is small enough not to wrap. The measure is the offsets left. Assumes nothing.
-use Rattle.std.specs.Prelude.{◌≡◌, ◌+◌, ◌-◌, ◌*◌, ◌<◌, ◌≤◌, length, get_or, drop}
+use Rattle.std.specs.Prelude.{◌≡◌, ◌+◌, ◌<◌, ◌≤◌, length, get_or, drop}
 use mathlib.Core.Path.{◌∙◌, sym, refl}
 use native.Mathlib.Omega.{arith}
 use borrow.Author.Rules.{rules}
-use Rattle.skip.specs.Rules.{W5}
 use Rattle.skip.specs.Headers.{prefix_sum, run_end}
 use Rattle.skip.proofs.Steps.{W5-end, W5-out, W5-last, W5-cut, W5-on}
 use Rattle.skip.proofs.rules.sums_fit.Goals as goal
