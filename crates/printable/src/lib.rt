@@ -78,6 +78,7 @@ fn in_span(first: u32, end: u32, x: u32) -> bool
     x < end
 }
 
+#[tactic(auto, unfolding(crate::specs::Printable::spans, crate::specs::Printable::in_spans))]
 fn outside_spans(x: u32) -> bool
     ensures { result ≡ not (in_spans spans x) }
 {

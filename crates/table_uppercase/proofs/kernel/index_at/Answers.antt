@@ -1,0 +1,11 @@
+-- `table_uppercase::kernel::index_at` meets its contract: the word read holds the byte. Assumes nothing.
+use mathlib.Core.Path.{refl}
+use Rattle.bitset.specs.Bitsets.{all_below}
+use Rattle.bitset.proofs.Packed.{byte_read}
+use Rattle.table_uppercase.specs.Table.{chunks}
+use borrow.Author.Rules.{rules}
+use Rattle.table_uppercase.proofs.kernel.index_at.Goals as goal
+
+pub returns : goal.returns
+unfolding chunks all_below
+returns c = byte_read chunks _ refl c.chunks_eight.ensures c.byte_at.ensures
