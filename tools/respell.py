@@ -89,10 +89,13 @@ def table(root):
             print(f"look: {name} is a library's name too, and stays")
             continue
         names[name] = snake(name)
-    # A lemma that would have the name of a definition of its crate is told from it.
+    # A lemma that would have the name of a definition of its crate, or of one that its file speaks of, is told from it.
     for old, new in names.items():
-        if "-" in old and any(other != old and names.get(other) == new and homes(every[other]) & homes(every[old]) for other in names):
-            names[old] = new + "_lem"
+        for other in every:
+            if "-" not in old or other == old or names.get(other) != new:
+                continue
+            if homes(every[other]) & homes(every[old]) or any(other in SPLIT.split(read(p)) for p in every[old]):
+                names[old] = new + "_lem"
     return names
 
 

@@ -7,12 +7,12 @@ use Rattle.pack.proofs.Fast.{fast_headers, fast}
 use Rattle.table_numeric.specs.Table.{headers, offsets}
 use Rattle.table_numeric.specs.Flat.{flat}
 
-fast_headers : fast_headers 0 0 0 (edges flat) ≡ headers
+fast_headers_lem : fast_headers 0 0 0 (edges flat) ≡ headers
 unfolding flat headers edges fast_headers
-fast_headers = refl
+fast_headers_lem = refl
 
 pub headers_packed : packing.headers flat ≡ headers
-headers_packed = sym (fast 0 0 0 (edges flat)) ∙ fast_headers
+headers_packed = sym (fast 0 0 0 (edges flat)) ∙ fast_headers_lem
 
 pub offsets_packed : packing.offsets flat ≡ offsets
 unfolding flat offsets edges packing.offsets_of

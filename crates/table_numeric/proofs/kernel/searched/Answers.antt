@@ -1,0 +1,14 @@
+-- `table_numeric::kernel::searched` meets its contract: the constants that it lends are the table's lists. Assumes nothing.
+use mathlib.Core.Path.{◌∙◌}
+use borrow.Author.Rules.{rules}
+use Rattle.table_numeric.specs.Table.{headers, offsets}
+use Rattle.table_numeric.proofs.Right.{table_keeps, table_right}
+use Rattle.table_numeric.proofs.kernel.searched.Goals as goal
+
+pub skip_search-requires : goal.skip_search-requires
+unfolding headers offsets
+skip_search-requires c = (table_keeps, search rules)
+
+pub returns : goal.returns
+unfolding headers offsets
+returns c = c.skip_search.ensures ∙ table_right _ (search rules)
