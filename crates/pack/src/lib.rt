@@ -1,5 +1,6 @@
 // The packer: from a flat list of ranges to the headers and offsets of a skip table.
 #![tactic(auto)]
+
 ghost use Rattle.std.specs.Prelude.{◌≡◌, ℕ, ◌+◌, ◌-◌, ◌*◌, ◌%◌, ◌≤◌, ◌<◌, length, get_or};
 ghost use Rattle.sets.specs.Buffers.{over};
 ghost use Rattle.pack.specs.Packing.{small, word, offsets_of, headers_of};
