@@ -1,4 +1,5 @@
 // The upper mapping: Rust's rows, equal to Unicode's.
 #![tactic(auto)]
+
 pub mod kernel;
 mod table;

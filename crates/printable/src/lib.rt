@@ -1,5 +1,6 @@
 // Whether a character may stand on a label: neither invisible nor unassigned.
 #![tactic(auto)]
+
 ghost use Rattle.std.specs.Prelude.{◌≡◌, not};
 ghost use Rattle.scalar.specs.Scalars.{answered};
 ghost use Rattle.sets.specs.Lists.{holds};

@@ -1,6 +1,6 @@
 -- The rules W1 to W5 in document 01's own words, header by header and run by run. proofs/Stated.antt shows each of them
 -- equivalent to its test in crates/skip/specs/Rules.antt. Assumes nothing: these are definitions.
-use Rattle.std.specs.Prelude.{ℕ, zero, suc, ◌+◌, ◌-◌, ◌<◌, ◌≤◌, ◌≡◌, List, [], ◌∷◌, length, get_or, drop}
+use Rattle.std.specs.Prelude.{ℕ, zero, suc, ◌+◌, ◌-◌, ◌<◌, ◌≤◌, ◌≡◌, List, length, get_or, drop}
 use Rattle.std.proofs.Math.Seq.{slice}
 use Rattle.sets.specs.Orders.{Rises}
 use Rattle.skip.specs.Headers.{start_index, prefix_sum, run_end}

@@ -1,4 +1,5 @@
 // Alphabetic without ASCII: the skip table of document 000, and Unicode's list that it must equal.
 #![tactic(auto)]
+
 pub mod kernel;
 pub mod table;

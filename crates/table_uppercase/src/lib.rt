@@ -1,4 +1,5 @@
 // Uppercase without ASCII: the bitset of document 000, and Unicode's list that it must equal.
 #![tactic(auto)]
+
 pub mod kernel;
 mod table;

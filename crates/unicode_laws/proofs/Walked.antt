@@ -1,8 +1,8 @@
 -- A skip table whose boundaries are those of a flat list, and one more past the last number, keeps the rules and answers
 -- as the list. One law for every table and every closing sum, from computed tests. Assumes nothing.
 use Prim.Native.Nat.{ℕ, ◌≤◌, ◌<◌}
-use mathlib.Core.Path.{◌≡◌, refl, sym, ap, ◌∙◌}
-use mathlib.Core.Bool.{Bool, true}
+use mathlib.Core.Path.{◌≡◌, sym, ap, ◌∙◌}
+use mathlib.Core.Bool.{true}
 use mathlib.Core.List.{List, [], ◌∷◌, ◌++◌}
 use native.Mathlib.Omega.{arith}
 use lib.ListN.{length}

@@ -1,11 +1,9 @@
 -- `pack::count_runs` meets its contract. The invariant: the boundaries from j on are in order after the one before, and the
 -- runs counted with those that they still make are one more than there are. The measure is what is left. Assumes nothing.
-use Prim.Native.Nat.{◌≤◌, ◌-◌, ◌+◌}
-use mathlib.Core.Path.{◌≡◌, ◌∙◌, refl, ap}
+use mathlib.Core.Path.{◌∙◌, refl, ap}
 use native.Mathlib.Omega.{arith}
 use borrow.Author.Rules.{rules}
-use lib.ListN.{length, drop}
-use Rattle.pack.specs.Places.{edges_from, InOrder, runs_of}
+use Rattle.pack.specs.Places.{runs_of}
 use Rattle.pack.proofs.Turns.{Turn, turn, order_here, runs_small, runs_large, runs_end, edges_gone}
 use Rattle.pack.proofs.count_runs.Goals as goal
 

@@ -1,5 +1,4 @@
 -- `pack::offset_of` meets its contract: each return rewrites with the test that led there. Assumes nothing.
-use borrow.Author.Rules.{rules}
 use borrow.Author.Tests.{le-leb, lt-leb}
 use Rattle.pack.proofs.offset_of.Goals as goal
 

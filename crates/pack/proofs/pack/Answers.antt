@@ -3,7 +3,6 @@
 use Prim.Native.Nat.{ℕ, ◌+◌, ◌*◌, ◌≤◌}
 use mathlib.Core.Path.{◌≡◌, ◌∙◌, sym, ap}
 use native.Mathlib.Omega.{arith}
-use borrow.Author.Rules.{rules}
 use lib.ListN.{length}
 use Rattle.sets.specs.Lists.{ranges}
 use Rattle.sets.specs.Answers.{list_refusal}

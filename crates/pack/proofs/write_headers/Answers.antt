@@ -1,13 +1,13 @@
 -- `pack::write_headers` meets its contract. The invariant: the buffer is the first k of the headers to be written, then what
 -- it was, and the headers from k on are those of the boundaries from j on. The measure is what is left. Assumes nothing.
-use Prim.Native.Nat.{ℕ, ◌≤◌, ◌-◌, ◌+◌}
+use Prim.Native.Nat.{◌+◌}
 use mathlib.Core.Path.{◌≡◌, ◌∙◌, sym, refl, ap}
-use mathlib.Core.List.{List, [], ◌∷◌, ◌++◌}
+use mathlib.Core.List.{[], ◌∷◌}
 use native.Mathlib.Omega.{arith}
 use borrow.Author.Rules.{rules}
-use lib.ListN.{length, drop, take, length-set, length-drop}
+use lib.ListN.{length, drop, length-set, length-drop}
 use Rattle.pack.specs.Packing.{headers_of, word}
-use Rattle.pack.specs.Places.{edges_from, InOrder}
+use Rattle.pack.specs.Places.{edges_from}
 use Rattle.pack.proofs.Turns.{Turn, turn, order_here, edges_gone, headers_small, headers_large, headers_end}
 use Rattle.pack.proofs.Store.{put, whole, on, inside}
 use Rattle.pack.proofs.write_headers.Invariants.{target}

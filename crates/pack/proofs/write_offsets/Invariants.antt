@@ -1,15 +1,11 @@
 -- `pack::write_offsets` meets its contract. The invariant: the buffer is the first i of the offsets to be written, then what
 -- it was, and the offsets from i on are those of the boundaries from i on. The measure is what is left. Assumes nothing.
-use Prim.Native.Nat.{ℕ, ◌≤◌, ◌-◌, ◌+◌}
-use mathlib.Core.Path.{◌≡◌, ◌∙◌, refl, ap}
-use mathlib.Core.List.{List, [], ◌++◌}
-use native.Mathlib.Omega.{arith}
-use borrow.Author.Rules.{rules}
-use lib.ListN.{length, drop, take, length-set}
+use Prim.Native.Nat.{ℕ, ◌≤◌, ◌-◌}
+use mathlib.Core.Path.{◌≡◌}
+use mathlib.Core.List.{List, ◌++◌}
+use lib.ListN.{length, drop, take}
 use Rattle.pack.specs.Packing.{offsets_of}
 use Rattle.pack.specs.Places.{edges_from, InOrder}
-use Rattle.pack.proofs.Turns.{Turn, turn, order_here, edges_gone, offsets_cons, offsets_end, offsets_length, places_length}
-use Rattle.pack.proofs.Store.{put, whole, on}
 use Rattle.pack.proofs.write_offsets.Given as goal
 
 -- what is to be written

@@ -1,5 +1,4 @@
 -- `printable::by_tables` meets its contract: each return rewrites with the tests that led there. Assumes nothing.
-use borrow.Author.Rules.{rules}
 use borrow.Author.Tests.{le-ltb, lt-ltb}
 use Rattle.printable.specs.Printable.{by_tables}
 use Rattle.printable.proofs.by_tables.Goals as goal

@@ -1,5 +1,4 @@
 -- `printable::check_plane0` meets its contract: the consts that it lends are the lists of specs/Table.antt. Assumes nothing.
-use borrow.Author.Rules.{rules}
 use Rattle.printable.specs.Table.{singletons0_high, singletons0_count, singletons0_low, normal0}
 use Rattle.printable.proofs.check_plane0.Goals as goal
 

@@ -1,6 +1,5 @@
 -- `printable::is_printable` meets its contract: a refusal of the check is the entry's, and of a scalar value the tables
 -- and Unicode's list say the same. Assumes nothing.
-use borrow.Author.Rules.{rules}
 use mathlib.Core.Path.{◌∙◌, sym, ap}
 use Rattle.scalar.specs.Scalars.{refusal_of}
 use Rattle.printable.specs.Printable.{by_tables}

@@ -2,7 +2,6 @@
 use mathlib.Core.Path.{◌∙◌}
 use Rattle.casing.proofs.Letters.{below_floor, in_plane0, in_plane1, past_planes}
 use Rattle.casing_lower.specs.Planes.{plane0, plane1}
-use borrow.Author.Rules.{rules}
 use Rattle.casing_lower.proofs.kernel.by_rows.Goals as goal
 
 pub returns-then-n-lt192 : goal.returns-then-n-lt192

@@ -7,7 +7,6 @@ use Rattle.casing.proofs.Pages.{empty_page, page_rows, past_rows, row_found, no_
 use Rattle.casing_lower.specs.Planes.{plane1}
 use Rattle.casing_lower.specs.Table.{ends1, pages1}
 use Rattle.casing_lower.proofs.Same.{readable1, no_multi1}
-use borrow.Author.Rules.{rules}
 use Rattle.casing_lower.proofs.kernel.plane1.Goals as goal
 
 pub returns-in_default : goal.returns-in_default

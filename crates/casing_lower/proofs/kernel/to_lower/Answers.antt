@@ -5,7 +5,6 @@ use mathlib.Core.Path.{◌∙◌, sym, ap, refl}
 use Rattle.casing.specs.Answers.{made}
 use Rattle.casing.proofs.Pages.{said}
 use Rattle.casing_lower.proofs.Same.{unicode}
-use borrow.Author.Rules.{rules}
 use Rattle.casing_lower.proofs.kernel.to_lower.Goals as goal
 
 pub returns-in_default : goal.returns-in_default

@@ -3,7 +3,6 @@ use mathlib.Core.Path.{◌∙◌}
 use Rattle.casing.proofs.Letters.{below_floor, in_plane0, past_plane0}
 use Rattle.casing_title.specs.Planes.{plane0, plane1}
 use Rattle.casing_title.proofs.Same.{plane1_none}
-use borrow.Author.Rules.{rules}
 use Rattle.casing_title.proofs.kernel.by_rows.Goals as goal
 
 pub returns-then-n-lt181 : goal.returns-then-n-lt181

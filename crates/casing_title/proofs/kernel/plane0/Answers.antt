@@ -7,7 +7,6 @@ use Rattle.casing.proofs.Pages.{empty_page, page_rows, past_rows, row_found}
 use Rattle.casing_title.specs.Planes.{plane0}
 use Rattle.casing_title.specs.Table.{ends0, pages0}
 use Rattle.casing_title.proofs.Same.{readable0}
-use borrow.Author.Rules.{rules}
 use Rattle.casing_title.proofs.kernel.plane0.Goals as goal
 
 pub returns-in_default : goal.returns-in_default

@@ -3,7 +3,6 @@
 use mathlib.Core.Path.{◌∙◌, sym, refl}
 use Rattle.casing.proofs.Pages.{said}
 use Rattle.casing_title.proofs.Same.{unicode}
-use borrow.Author.Rules.{rules}
 use Rattle.casing_title.proofs.kernel.to_title.Goals as goal
 
 pub returns-in_default : goal.returns-in_default

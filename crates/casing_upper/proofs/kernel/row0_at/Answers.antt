@@ -3,8 +3,7 @@
 use Rattle.std.specs.Prelude.{◌+◌, ◌-◌, ◌/◌}
 use mathlib.Core.Path.{sym}
 use native.Mathlib.Omega.{arith}
-use borrow.Author.Rules.{rules}
-use Rattle.casing.proofs.Halving.{Halving, begin, move_lo, move_hi, met}
+use Rattle.casing.proofs.Halving.{begin, move_lo, move_hi, met}
 use Rattle.casing.proofs.Pages.{tested}
 use Rattle.casing_upper.specs.Planes.{plane0}
 use Rattle.casing_upper.specs.Table.{ends0, pages0}

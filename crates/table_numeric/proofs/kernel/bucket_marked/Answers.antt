@@ -2,7 +2,6 @@
 -- none. Assumes nothing.
 use mathlib.Core.Path.{◌∙◌, sym, ap}
 use Rattle.std.specs.Prelude.{◌/◌, ◌%◌}
-use borrow.Author.Rules.{rules}
 use Rattle.bitset.specs.Bitsets.{bit}
 use Rattle.bitset.proofs.Marks.{past_marks}
 use Rattle.table_numeric.specs.Marks.{marks}

@@ -1,6 +1,5 @@
 -- `table_numeric::kernel::lookup` meets its contract: no range reaches into an unmarked bucket. Assumes nothing.
 use mathlib.Core.Path.{◌∙◌, sym}
-use borrow.Author.Rules.{rules}
 use Rattle.bitset.proofs.Marks.{unmarked}
 use Rattle.table_numeric.specs.Flat.{flat}
 use Rattle.table_numeric.specs.Marks.{marks}

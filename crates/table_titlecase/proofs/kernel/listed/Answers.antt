@@ -1,5 +1,4 @@
 -- `table_titlecase::kernel::listed` meets its contract: the constant that it lends is the flat list. Assumes nothing.
-use borrow.Author.Rules.{rules}
 use Rattle.table_titlecase.specs.Flat.{flat}
 use Rattle.table_titlecase.proofs.kernel.listed.Goals as goal
 

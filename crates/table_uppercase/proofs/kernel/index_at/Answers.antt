@@ -3,7 +3,6 @@ use mathlib.Core.Path.{refl}
 use Rattle.bitset.specs.Bitsets.{all_below}
 use Rattle.bitset.proofs.Packed.{byte_read}
 use Rattle.table_uppercase.specs.Table.{chunks}
-use borrow.Author.Rules.{rules}
 use Rattle.table_uppercase.proofs.kernel.index_at.Goals as goal
 
 pub returns : goal.returns

@@ -6,7 +6,6 @@ use Rattle.bitset.proofs.Reading.{chunk_inside, place_inside, index_inside, answ
 use Rattle.table_uppercase.specs.Table.{chunk_map, chunks}
 use Rattle.table_uppercase.proofs.Right.{table, table_inside, table_right}
 use native.Mathlib.Omega.{arith}
-use borrow.Author.Rules.{rules}
 use Rattle.table_uppercase.proofs.kernel.lookup.Goals as goal
 
 pub returns-then-chunk-ge-CHUNK_MAP_LENGTH : goal.returns-then-chunk-ge-CHUNK_MAP_LENGTH
