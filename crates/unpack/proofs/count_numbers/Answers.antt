@@ -9,6 +9,7 @@ use Rattle.skip.specs.Table.{walk, boundaries}
 use Rattle.unpack.specs.Flow.{when, flow, numbers}
 use Rattle.unpack.proofs.Flows.{off_offsets, off_headers, off_top, turn, next_most, count_on, count_end}
 use Rattle.unpack.proofs.count_numbers.Goals as goal
+use Rattle.unpack.proofs.count_numbers.Goals.{else-loop-i-test, then-loop-i-test+then-k-headers, then-loop-i-test+else-k-headers+then-b-gt-MAX}
 
 pub loop-i-init : goal.loop-i-init
 loop-i-init c = (search rules, refl, search rules, search rules, omega arith)
@@ -53,16 +54,12 @@ returns c =
     let ended_here : flow c.loop-i.waiting c.loop-i.at (walk (length c.args.offsets.now) c.loop-i.i c.loop-i.at (drop c.loop-i.k c.args.headers.now) (drop c.loop-i.i c.args.offsets.now)) ≡ when c.loop-i.waiting c.loop-i.at [] = (let hs = c.args.headers.now in
     let os = c.args.offsets.now in
     let l = c.loop-i in
-    ⊎_elim
-    (λ w. off_offsets (length os) hs os l.i l.k l.at l.waiting w.left)
-    (λ v.
-    ⊎_elim
-    (λ w. off_headers (length os) hs os l.i l.k l.at l.waiting w.1.taken)
-    (λ w.
-    off_top (length os) hs os l.i l.k l.at w.1.left (omega arith) l.waiting w.3.result.at w.3.ensures.0
-    w.4.taken)
-    v)
-    c.loop-i-test.branch) in
+    elim c.loop-i-test.branch [
+        else-loop-i-test w ↦ off_offsets (length os) hs os l.i l.k l.at l.waiting w.loop-i-test.false
+      | then-loop-i-test+then-k-headers w ↦ off_headers (length os) hs os l.i l.k l.at l.waiting w.if-k-headers.true
+      | then-loop-i-test+else-k-headers+then-b-gt-MAX w ↦
+        off_top (length os) hs os l.i l.k l.at w.if-k-headers.false (omega arith) l.waiting w.step-s.result.at w.step-s.ensures.0 w.if-b-gt-MAX.true
+    ]) in
     let l = c.loop-i in
     let m = c.after-m-2 in
     count_end _ m.result c.after.result c.after.ensures

@@ -11,6 +11,10 @@ use Rattle.unpack.specs.Flow.{when, flow, numbers}
 use Rattle.unpack.proofs.Flows.{off_offsets, off_headers, off_top, turn, next_most, Written, same_size, all_written, next_room, next_store, last_room, last_store}
 use Rattle.unpack.proofs.write_numbers.Given as goal
 
+-- what is to be written
+abbrev pub target : List ℕ → List ℕ → List ℕ
+target hs os = numbers 0 (flow false 0 (boundaries hs os))
+
 abbrev pub invariant-loop-i : goal.invariant-loop-i
 invariant-loop-i l =
     (l.i ≤ l.n) × (l.n ≡ length l.offsets) × (l.at ≤ 0x10FFFF) × (l.m ≤ l.i)
