@@ -1,5 +1,6 @@
 // Case mapping of any number: refuses 1 above 0x10FFFF, 2 for a surrogate; else what Unicode's rows say.
 #![tactic(auto)]
+
 ghost use Rattle.std.specs.Prelude.{◌≡◌};
 ghost use Rattle.casing.specs.Listed.{mapping_of};
 ghost use Rattle.casing_lower.specs.Unicode as lower;

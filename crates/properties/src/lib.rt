@@ -1,5 +1,6 @@
 // The nine properties of Unicode 17.0.0, each over any number: refuses 1, then 2, else yes or no.
 #![tactic(auto)]
+
 ghost use Rattle.std.specs.Prelude.{◌≡◌};
 ghost use Rattle.scalar.specs.Scalars.{answered};
 ghost use Rattle.properties.specs.Properties.{alphabetic, lowercase, uppercase, titlecase, cased, numeric, alphanumeric};

@@ -1,5 +1,6 @@
 // The unpacker: from a skip table to the flat list of its ranges.
 #![tactic(auto)]
+
 ghost use Rattle.std.specs.Prelude.{◌≡◌, ◌+◌, ◌-◌, ◌<◌, ◌≤◌, true, false, cond, length, slice_set};
 ghost use Rattle.sets.specs.Buffers.{over};
 ghost use Rattle.skip.specs.Table.{boundaries};

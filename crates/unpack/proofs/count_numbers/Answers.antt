@@ -55,10 +55,10 @@ returns c =
     let os = c.args.offsets.now in
     let l = c.loop-i in
     elim c.loop-i-test.branch [
-        else-loop-i-test w ↦ off_offsets (length os) hs os l.i l.k l.at l.waiting w.loop-i-test.false
+      | else-loop-i-test w ↦ off_offsets (length os) hs os l.i l.k l.at l.waiting w.loop-i-test.false
       | then-loop-i-test+then-k-headers w ↦ off_headers (length os) hs os l.i l.k l.at l.waiting w.if-k-headers.true
       | then-loop-i-test+else-k-headers+then-b-gt-MAX w ↦
-        off_top (length os) hs os l.i l.k l.at w.if-k-headers.false (omega arith) l.waiting w.step-s.result.at w.step-s.ensures.0 w.if-b-gt-MAX.true
+          off_top (length os) hs os l.i l.k l.at w.if-k-headers.false (omega arith) l.waiting w.step-s.result.at w.step-s.ensures.0 w.if-b-gt-MAX.true
     ]) in
     let l = c.loop-i in
     let m = c.after-m-2 in

@@ -62,10 +62,10 @@ put-requires-2 c =
     let os = c.args.offsets.now in
     let l = c.loop-i in
     elim c.loop-i-test.branch [
-        else-loop-i-test w ↦ off_offsets (length os) hs os l.i l.k l.at l.waiting w.loop-i-test.false
+      | else-loop-i-test w ↦ off_offsets (length os) hs os l.i l.k l.at l.waiting w.loop-i-test.false
       | then-loop-i-test+then-k-headers w ↦ off_headers (length os) hs os l.i l.k l.at l.waiting w.if-k-headers.true
       | then-loop-i-test+else-k-headers+then-b-gt-MAX w ↦
-        off_top (length os) hs os l.i l.k l.at w.if-k-headers.false (omega arith) l.waiting w.step-s.result.at w.step-s.ensures.0 w.if-b-gt-MAX.true
+          off_top (length os) hs os l.i l.k l.at w.if-k-headers.false (omega arith) l.waiting w.step-s.result.at w.step-s.ensures.0 w.if-b-gt-MAX.true
     ]) in
     let l = c.loop-i in
     next_room _ c.args.out.now c.requires.1 l.out l.m _ l.waiting l.at _ _ ended_here c.number_of-2.ensures l.invariant.4
@@ -80,10 +80,10 @@ put-requires-3 c =
     let os = c.args.offsets.now in
     let l = c.loop-i in
     elim c.loop-i-test.branch [
-        else-loop-i-test w ↦ off_offsets (length os) hs os l.i l.k l.at l.waiting w.loop-i-test.false
+      | else-loop-i-test w ↦ off_offsets (length os) hs os l.i l.k l.at l.waiting w.loop-i-test.false
       | then-loop-i-test+then-k-headers w ↦ off_headers (length os) hs os l.i l.k l.at l.waiting w.if-k-headers.true
       | then-loop-i-test+else-k-headers+then-b-gt-MAX w ↦
-        off_top (length os) hs os l.i l.k l.at w.if-k-headers.false (omega arith) l.waiting w.step-s.result.at w.step-s.ensures.0 w.if-b-gt-MAX.true
+          off_top (length os) hs os l.i l.k l.at w.if-k-headers.false (omega arith) l.waiting w.step-s.result.at w.step-s.ensures.0 w.if-b-gt-MAX.true
     ]) in
     let stored_here : Written (target c.args.headers.now c.args.offsets.now) c.args.out.now c.put-2.new.out c.after-m-2.result (numbers c.after-m-2.result []) = (let l = c.loop-i in
     next_store _ c.args.out.now c.requires.1 l.out l.m _ l.waiting l.at _ _ ended_here
@@ -96,10 +96,10 @@ returns c =
     let os = c.args.offsets.now in
     let l = c.loop-i in
     elim c.loop-i-test.branch [
-        else-loop-i-test w ↦ off_offsets (length os) hs os l.i l.k l.at l.waiting w.loop-i-test.false
+      | else-loop-i-test w ↦ off_offsets (length os) hs os l.i l.k l.at l.waiting w.loop-i-test.false
       | then-loop-i-test+then-k-headers w ↦ off_headers (length os) hs os l.i l.k l.at l.waiting w.if-k-headers.true
       | then-loop-i-test+else-k-headers+then-b-gt-MAX w ↦
-        off_top (length os) hs os l.i l.k l.at w.if-k-headers.false (omega arith) l.waiting w.step-s.result.at w.step-s.ensures.0 w.if-b-gt-MAX.true
+          off_top (length os) hs os l.i l.k l.at w.if-k-headers.false (omega arith) l.waiting w.step-s.result.at w.step-s.ensures.0 w.if-b-gt-MAX.true
     ]) in
     let stored_here : Written (target c.args.headers.now c.args.offsets.now) c.args.out.now c.put-2.new.out c.after-m-2.result (numbers c.after-m-2.result []) = (let l = c.loop-i in
     next_store _ c.args.out.now c.requires.1 l.out l.m _ l.waiting l.at _ _ ended_here
