@@ -6,21 +6,21 @@ ghost use Rattle.casing.specs.Rows.{covers, moved, in_plane, apart};
 ghost use Rattle.casing.specs.Reading.{unpacked, row_says, RowOf, Halved};
 
 // Where the rows send a number: one to three numbers, unused ones 0.
-#[derive(Drop)]
+#[derive(Clone, Copy)]
 pub enum Found {
     To(u32, u32, u32),
     Nothing,
 }
 
 // The single rows that can hold a page's numbers, from the first index to before the second. An empty page has no row of any kind.
-#[derive(Drop)]
+#[derive(Clone, Copy)]
 pub enum Page {
     Rows(usize, usize),
     Empty,
 }
 
 // Four packed rows, the four of an arm of a `match`: a check of the `match` costs by its arms.
-#[derive(Drop)]
+#[derive(Clone, Copy)]
 pub struct Four {
     pub a: u64,
     pub b: u64,

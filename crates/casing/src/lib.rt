@@ -10,7 +10,7 @@ pub mod ascii;
 pub mod kernel;
 
 // The three mapped numbers, unused ones 0, with their count; a refused mapping holds three zeros and count 0.
-#[derive(Drop)]
+#[derive(Clone, Copy)]
 pub struct Mapping {
     pub to: [u32; 3],
     pub count: usize,

@@ -13,7 +13,7 @@ pub use utf8::{encode_utf8, len_utf8};
 pub use utf16::{encode_utf16, len_utf16};
 
 // What the four entries answer: so many bytes or 16-bit units, or a refusal.
-#[derive(Drop)]
+#[derive(Clone, Copy)]
 pub enum Length {
     Of(usize),
     Refused(Refusal),

@@ -16,7 +16,7 @@ const MAX_OFFSET: u32 = 255;
 // The sum of the last run.
 const CLOSING_SUM: u32 = 0x1FFFFF;
 
-#[derive(Drop)]
+#[derive(Clone, Copy)]
 pub enum Packed {
     // How many headers and how many offsets were written.
     Done(usize, usize),

@@ -3,7 +3,7 @@ ghost use Rattle.std.specs.Prelude.{◌≡◌, true, false, drop};
 ghost use Rattle.runs.specs.Lengths.{length_at, lengths, kind_at};
 
 // The length that stands at a place, and the place after it.
-#[derive(Drop)]
+#[derive(Clone, Copy)]
 enum Length {
     Of(u16, usize),
     End,

@@ -10,19 +10,19 @@ mod refusal;
 pub use refusal::Refusal;
 
 // A number to Scalar::MAX that is no surrogate, as Scalar::new makes it.
-#[derive(Drop)]
+#[derive(Clone, Copy)]
 pub struct Scalar {
     pub value: u32,
 }
 
-#[derive(Drop)]
+#[derive(Clone, Copy)]
 pub enum ScalarCheck {
     Valid(Scalar),
     Refused(Refusal),
 }
 
 // What a yes-or-no entry over any number answers.
-#[derive(Drop)]
+#[derive(Clone, Copy)]
 pub enum Answer {
     Is(bool),
     Refused(Refusal),

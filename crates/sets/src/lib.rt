@@ -13,7 +13,7 @@ use scalar::{Answer, Refusal, Scalar};
 pub const MAX_RANGES: usize = 1023;
 
 // What the check of a list answers: how many ranges it has.
-#[derive(Drop)]
+#[derive(Clone, Copy)]
 pub enum ListCheck {
     Ranges(usize),
     Refused(Refusal),

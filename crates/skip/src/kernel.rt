@@ -11,14 +11,14 @@ use crate::rules::{sizes_ok, starts_at_zero, starts_rise, sums_fit, sums_rise};
 use crate::{prefix_sum, start_index};
 
 // Whether a number is in a table, and how many offsets of its run were read.
-#[derive(Drop)]
+#[derive(Clone, Copy)]
 pub struct Hit {
     pub yes: bool,
     pub read: usize,
 }
 
 // Where a search stops.
-#[derive(Drop)]
+#[derive(Clone, Copy)]
 struct Stop {
     begin: usize,
     last: usize,

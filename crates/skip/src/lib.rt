@@ -12,14 +12,14 @@ use kernel::{lowest_broken, skip_search, skip_search_counted};
 use scalar::{Answer, Refusal, Scalar};
 
 // What the checker answers.
-#[derive(Drop)]
+#[derive(Clone, Copy)]
 pub enum Checked {
     Accepted,
     Refused(Refusal),
 }
 
 // What the counted search answers: whether the number is in the set, and how many offsets of its run were read.
-#[derive(Drop)]
+#[derive(Clone, Copy)]
 pub enum Found {
     Answer(bool, usize),
     Refused(Refusal),

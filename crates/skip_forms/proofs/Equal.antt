@@ -9,6 +9,7 @@ use prog.Routine.{Routine}
 use types.Logic.{Logic}
 use contract.Monad.{Fun, fact}
 use denote.Ref.{Bor}
+use denote.MutBor.{MutBor}
 use Rattle.skip.specs.contracts.check as check
 use Rattle.skip.specs.contracts.search as search
 use Rattle.skip.specs.contracts.search_counted as search-counted
@@ -38,7 +39,7 @@ module _ {M : Type 1} {𝓤 : Ura M} (𝓛 : Logic 𝓤) (mem : Memory → SProp
   search_view_counted_equal κs κs' v x r r' s s' = together 𝓤 (λ p q. p ∙ sym q)
 
   -- a list lent as records is packed as the same list lent as flat pairs, into buffers that hold the same
-  pack_ranges_equal : (κs κs' : _) (ranges : Bor (List Range)) (list headers offsets headers₂ offsets₂ : Bor (List ℕ)) (r r' : _) (s s' : _)
+  pack_ranges_equal : (κs κs' : _) (ranges : Bor (List Range)) (list : Bor (List ℕ)) (headers offsets headers₂ offsets₂ : MutBor (List ℕ)) (r r' : _) (s s' : _)
       → list.now ≡ flatten ranges.now → headers₂.now ≡ headers.now → offsets₂.now ≡ offsets.now
       → ent 𝓤 (sep 𝓤 ((pack-ranges.clauses 𝓛 mem run κs (ranges, (headers, (offsets, tt)))).ensures tt r s) ((pack.clauses 𝓛 mem run κs' (list, (headers₂, (offsets₂, tt)))).ensures tt r' s'))
       (fact 𝓤 ((r ≡ r') × (s.1.0.now ≡ s'.1.0.now) × (s.1.1.0.now ≡ s'.1.1.0.now)))

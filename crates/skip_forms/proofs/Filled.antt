@@ -1,11 +1,11 @@
 -- A local array of n numbers u32: written whole with zeros, it is a row of elements, which are stored one by one; and the row is read whole again. Each is said for any n. Assumes nothing.
 use mathlib.Core.Path.{◌≡◌, refl}
-use Prim.Native.Nat.{ℕ, zero, suc, ◌<◌}
+use Prim.Native.Nat.{ℕ, zero, suc}
 use mathlib.Core.List.{List, [], ◌∷◌}
 use lib.Dec.{T as Holds, lit<}
 use lib.ListN.{length, replicate, length-replicate}
 use seplogic.Ra.Ura.{Ura}
-use seplogic.Ra.TreeShare.{full_share}
+use base.Fraction.{full_share}
 use mir.Syntax.{Ty, w32, ty_int, ty_array}
 use mir.Val.{Val, WT, has_ty, vint}
 use base.Logic.{ent, sep}

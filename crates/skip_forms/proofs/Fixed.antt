@@ -1,4 +1,4 @@
--- Any two results that a promise allows are equal, and so is what the lent buffers hold. A function that is proved by a walk has its promise as an assertion (the `ensures` of its generated `clauses`), so each law says: where the promise holds of two results, they are equal. Assumes nothing.
+-- Any two results that a promise allows are equal, and so is what the lent buffers hold. Each law is said of the promise as an assertion, the `ensures` of the generated `clauses`: where it holds of two results, they are equal. Assumes nothing.
 use mathlib.Core.Path.{◌≡◌, ◌∙◌, sym}
 use seplogic.Ra.Ura.{Ura}
 use base.Logic.{SProp, ent, sep, fst∗, snd∗}

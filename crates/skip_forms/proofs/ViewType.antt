@@ -1,4 +1,4 @@
--- A view's type, its description and its laws over the two lifetimes of a signature: what each walk over a view cites. Assumes nothing.
+-- A view's type, its description and its laws over the two lifetimes of a signature: what a proof by hand over a view would cite. Assumes nothing.
 use contract.Lifetimes.{Lfts}
 use denote.RattleType.{RattleType}
 use denote.Signature.{named_lft}

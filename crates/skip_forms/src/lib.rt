@@ -1,5 +1,6 @@
 // The two thin forms over the plain-slice core: a table as one view, and a list as range records.
 #![tactic(auto)]
+
 mod records;
 mod views;
 

@@ -10,7 +10,7 @@ use scalar::Refusal;
 const MAX_RANGES: usize = 1023;
 
 // A range of a list, both ends counted.
-#[derive(Drop)]
+#[derive(Clone, Copy)]
 pub struct Range {
     pub first: u32,
     pub last: u32,

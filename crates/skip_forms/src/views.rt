@@ -5,7 +5,7 @@ ghost use Rattle.skip.specs.Answers.{checks, searches, finds};
 use scalar::Answer;
 use skip::{Checked, Found, check, search, search_counted};
 
-#[derive(Drop)]
+#[derive(Clone, Copy)]
 pub struct TableView<'a, 'b> {
     pub headers: &'a [u32],
     pub offsets: &'b [u8],

@@ -13,7 +13,7 @@ use skip::Checked;
 // An open last pair ends here; boundaries above it list nothing.
 const MAX: u32 = scalar::Scalar::MAX;
 
-#[derive(Drop)]
+#[derive(Clone, Copy)]
 pub enum Unpacked {
     // How many numbers were written, two for each range.
     Done(usize),
@@ -43,7 +43,7 @@ impl Unpacked {
 }
 
 // A boundary, and the run of the offset after it.
-#[derive(Drop)]
+#[derive(Clone, Copy)]
 struct Place {
     at: u32,
     run: usize,

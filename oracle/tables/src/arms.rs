@@ -12,7 +12,7 @@ const WORD: Form = Form::Hex(16);
 
 pub enum Arm {
     Number(u64),
-    /// What a pair's mapping makes of its canonical word, left to `bitset::core::mapped`.
+    /// What a pair's mapping makes of its canonical word, left to `bitset::kernel::mapped`.
     Mapped(u8, u64),
 }
 
@@ -51,15 +51,33 @@ pub fn function(says: &str, head: &str, clauses: &[String], arms: &[String], oth
 }
 
 pub fn requires(fact: &str) -> String {
-    format!("requires {{ ⌜ {fact} ⌝ }}")
+    format!("requires {{ {fact} }}")
 }
 
 pub fn ensures(fact: &str) -> String {
-    format!("ensures {{ λ r. ⌜ {fact} ⌝ }}")
+    format!("ensures {{ {fact} }}")
+}
+
+/// A goal's name, as it follows `returns-`, and what answers it.
+pub type Answer = (String, String);
+
+/// What answers the goal of an arm: a term that takes what is known of the number there.
+pub fn at_arm(key: impl std::fmt::Display, term: &str) -> Answer {
+    (format!("in-{key}"), format!("{term} c.in-{key}.is"))
+}
+
+/// What answers the goal of the last arm: a term with what is known of the number there in the place of `{}`.
+pub fn at_last(term: &str) -> Answer {
+    ("in_default".to_string(), term.replace("{}", "c.in_default.in_default-own.rest"))
+}
+
+/// What answers it where so many arms are all that an index reaches.
+pub fn at_unreached(arms: usize) -> Answer {
+    at_last(&format!("absurd (omega (arith, none_below {arms} {{}}))"))
 }
 
 /// The proof of such a function of a crate's file, and its path: what it meets, what it cites, what it opens, an answer for
-/// each need.
+/// each goal.
 pub fn proof(
     source: &str,
     place: Place,
@@ -67,18 +85,19 @@ pub fn proof(
     says: &str,
     cites: &str,
     opens: &str,
-    answers: &str,
+    answers: &[Answer],
 ) -> File {
     let (krate, file) = place;
-    let own = format!("Rattle·{krate}·proofs.proofs.{file}.{name}");
-    let spec = name.replace('_', "-") + "-spec";
+    let answer = |(goal, term): &Answer| {
+        format!("\npub returns-{goal} : goal.returns-{goal}\nunfolding {opens}\nreturns-{goal} c = {term}\n")
+    };
+    let answers: String = answers.iter().map(answer).collect();
     let text = format!(
         "-- Generated from {source} by `oracle/make`; do not edit.\n\
         -- `{krate}::{file}::{name}` meets its contract: {says}. Assumes nothing.\n\
-        {cites}use {own}.Statement.{{statement}}\nuse {own}.Tie as tie\n\n\
-        pub {spec} : {{M : Type 1}} → statement M\nunfolding {opens}\n{spec} =\n    tie.close\n    (tie.spec\n{answers}"
+        {cites}use Rattle.{krate}.proofs.{file}.{name}.Goals as goal\n{answers}"
     );
-    (format!("crates/{krate}/proofs/{file}/{name}/Proof.antt"), text)
+    (format!("crates/{krate}/proofs/{file}/{name}/Answers.antt"), text)
 }
 
 /// The constant that the last arms name.
@@ -104,37 +123,31 @@ impl Accessor {
             format!("{k} => {text}")
         };
         let arms: Vec<String> = self.arms.iter().enumerate().map(arm).collect();
-        let clauses = [requires(self.requires), ensures(&format!("r ≡ {answers} {index}"))];
+        let clauses = [requires(self.requires), ensures(&format!("result ≡ {answers} {index}"))];
         function(says, &format!("{name}({index}: usize) -> u64"), &clauses, &arms, "UNREACHED")
     }
 
-    /// Each arm answers what its index does. The prover asks first what `mapped` requires at each call, which is nothing.
+    /// Each arm answers what its index does. The first call of `mapped` is named by itself, the others by their arms too.
     pub fn proof(&self, source: &str, place: Place) -> File {
         let Accessor { name, answers, .. } = self;
-        let pairs = self.arms.iter().filter(|arm| matches!(arm, Arm::Mapped(..))).count();
-        let mut answered = "    (λ c κs. tt)\n".repeat(pairs);
-        let mut calls = 0;
-        for (k, arm) in self.arms.iter().enumerate() {
-            let k = k + 1;
-            answered += &match arm {
-                Arm::Number(_) => format!("    (λ c. arm ({answers}) (c .match .keys{k}))\n"),
-                Arm::Mapped(..) => {
-                    calls += 1;
-                    let call = if calls == 1 { String::new() } else { calls.to_string() };
-                    format!(
-                        "    (λ c. c .mapped{call} .ensures ∙ arm ({answers}) (c .before .match .keys{k}))\n"
-                    )
-                }
+        let is_mapped = |arm: &Arm| matches!(arm, Arm::Mapped(..));
+        let first = self.arms.iter().position(is_mapped);
+        let arm = |(k, arm): (usize, &Arm)| {
+            let call = match arm {
+                Arm::Number(_) => String::new(),
+                Arm::Mapped(..) if first == Some(k) => "c.mapped.ensures ∙ ".to_string(),
+                Arm::Mapped(..) => format!("c.mapped-in-{k}.ensures ∙ "),
             };
-        }
-        answered +=
-            &format!("    (λ c. absurd (omega (arith, none-below {} (c .match .rest)))))\n", self.arms.len());
-        let of_calls = if pairs > 0 { "use mathlib.Core.Path.{_∙_}\n" } else { "" };
+            at_arm(k, &format!("{call}arm ({answers})"))
+        };
+        let mut answered: Vec<Answer> = self.arms.iter().enumerate().map(arm).collect();
+        answered.push(at_unreached(self.arms.len()));
+        let of_calls = if first.is_some() { "use mathlib.Core.Path.{◌∙◌}\n" } else { "" };
         let uses = |(module, names): &Opened| format!("use {module}.{{{}}}\n", names.replace(' ', ", "));
         let opened: String = self.opened.iter().map(uses).collect();
         let cites = format!(
             "{of_calls}use native.Mathlib.Omega.{{arith}}\n\
-            use Rattle·sets.proofs.Arms.{{arm, NoneBelow, none-below}}\n{opened}"
+            use Rattle.sets.proofs.Arms.{{arm, NoneBelow, none_below}}\n{opened}"
         );
         let unfolded: Vec<&str> = self.opened.iter().map(|&(_, names)| names).collect();
         let opens = unfolded.join(" ") + " NoneBelow";

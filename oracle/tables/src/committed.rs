@@ -55,7 +55,7 @@ impl Crate<'_> {
 
     /// The lists of specs/, in this order, one after the other.
     fn lists(&self, names: &[String]) -> Vec<u64> {
-        names.iter().flat_map(|name| list(&self.specs, &crate::files::camel(name))).collect()
+        names.iter().flat_map(|name| list(&self.specs, &crate::files::snake(name))).collect()
     }
 
     /// The constants are the lists of specs/, in this order.
@@ -116,8 +116,8 @@ fn rust_headers(root: &Path, property: &str) -> bool {
     let closing = words.last_mut().expect("a header");
     *closing = (*closing >> 21 << 21) + (last + 1 + 0x110000) as u64;
     compare::list(
-        &format!("{name}, rustHeaders against constants"),
-        list(&table.specs, "rustHeaders"),
+        &format!("{name}, rust_headers against constants"),
+        list(&table.specs, "rust_headers"),
         &words,
     )
 }

@@ -42,12 +42,20 @@ impl Consts {
         let elements: Vec<String> = numbers.iter().map(|&number| form.write(number)).collect();
         let head = format!("pub const {name}: [{kind}; {}] = [", numbers.len());
         let line = elements.join(", ");
-        // `rt fmt` keeps an array of at most 60 columns in a line, and otherwise breaks at each element.
+        // `rt fmt` keeps an array of at most 60 columns in a line, and otherwise fills lines of 99 with short elements.
         if line.len() <= 60 && head.len() + line.len() + 2 <= 100 {
             self.0 += &format!("{head}{line}];\n");
-        } else {
-            self.0 += &format!("{head}\n    {},\n];\n", elements.join(",\n    "));
+            return;
         }
+        assert!(elements.iter().all(|element| element.len() <= 10), "{name}: `rt fmt` gives each a line");
+        let mut lines = vec![String::from("   ")];
+        for element in elements {
+            if lines[lines.len() - 1].len() + element.len() + 2 > 99 {
+                lines.push(String::from("   "));
+            }
+            *lines.last_mut().unwrap() += &format!(" {element},");
+        }
+        self.0 += &format!("{head}\n{}\n];\n", lines.join("\n"));
     }
 
     /// A line of its own, as it stands.
@@ -71,7 +79,7 @@ pub struct Lists(String);
 impl Lists {
     pub fn new(source: &str) -> Lists {
         let head = format!("-- Generated from {source} by `oracle/make`; do not edit.\n");
-        Lists(head + "use Prim.Native.Nat.{ℕ}\nuse mathlib.Core.List.{List, [], _∷_}\n")
+        Lists(head + "use Rattle.std.specs.Prelude.{ℕ, List, [], ◌∷◌}\n")
     }
 
     /// Lines end after whole groups of `group` numbers: ranges are 2, mapping rows 4.

@@ -1,29 +1,24 @@
 //! The functions that read a mapping's rows and pages by a `match`, with their proofs.
 
 use super::{of_rust, File, UNICODE_DATA};
-use crate::arms::{ensures, function, proof, requires};
+use crate::arms::{at_arm, at_last, at_unreached, ensures, function, proof, requires, Answer};
 use crate::{layout::Consts, rows::Plane};
 
-/// A proof's middle: an answer for each arm, one for the default.
-fn answers(arms: usize, arm: &str, other: &str) -> String {
-    let arms: String = (1..=arms).map(|k| format!("    (λ c. {arm} (c .match .keys{k}))\n")).collect();
-    format!("{arms}    (λ c. {other} (c .match .rest)))\n")
+/// An answer for each arm, by its number, and one for the last.
+fn answers<T: std::fmt::Display>(keys: impl Iterator<Item = T>, arm: &str, last: Answer) -> Vec<Answer> {
+    keys.map(|key| at_arm(key, arm)).chain([last]).collect()
 }
 
 /// What table.rt cites, after its first line.
 pub fn uses(consts: &mut Consts, krate: &str, of_ends: bool) {
-    consts.line("ghost use mathlib.Core.Path.{_≡_};");
-    if of_ends {
-        consts.line("ghost use Prim.Native.Nat.{_<_};");
-        consts.line("ghost use lib.ListN.{length, getD};");
-    }
-    consts.line("ghost use Rattle·casing.specs.Reading.{Says, packed, fourAt, pageOf};");
-    consts.line("ghost use Rattle·casing.specs.Rows.{singles, multis, multiple};");
-    consts.line(&format!("ghost use Rattle·{krate}·specs.specs.Planes as planes;"));
-    consts.line(&format!("ghost use Rattle·{krate}·specs.specs.Table as lists;"));
-    consts.line("use casing::core::Found;");
-    consts.line("use casing::core::Four;");
-    consts.line("use casing::core::Page;");
+    let of_lists = if of_ends { ", ◌<◌, length, slice_index" } else { "" };
+    consts.line(&format!("ghost use Rattle.std.specs.Prelude.{{◌≡◌{of_lists}}};"));
+    consts.line("ghost use Rattle.casing.specs.Reading.{Says, packed, four_at, page_of};");
+    consts.line("ghost use Rattle.casing.specs.Rows.{singles, multis, multiple};");
+    consts.line(&format!("ghost use Rattle.{krate}.specs.Planes as planes;"));
+    consts.line(&format!("ghost use Rattle.{krate}.specs.Table as lists;"));
+    consts.line("");
+    consts.line("use casing::kernel::{Found, Four, Page};");
 }
 
 pub fn rows(consts: &mut Consts, krate: &str, p: usize, plane: &Plane) -> File {
@@ -38,24 +33,24 @@ pub fn rows(consts: &mut Consts, krate: &str, p: usize, plane: &Plane) -> File {
     consts.text_of(&function(
         &format!("plane {p}: four rows to an arm, a row in a word, 16 bits each: delta, step, last number, first number"),
         &format!("rows{p}(i: usize) -> Four"),
-        &[ensures(&format!("r ≡ fourAt (packed (singles planes.plane{p})) i"))],
+        &[ensures(&format!("result ≡ four_at (packed (singles planes.plane{p})) i"))],
         &fours.collect::<Vec<_>>(),
         "Four {\n            a: 0,\n            b: 0,\n            c: 0,\n            d: 0,\n        }",
     ));
     let needs = format!(
         "use lib.Dec.{{lit≤}}\n\
-         use Rattle·sets.proofs.Arms.{{arm, NoneBelow}}\n\
-         use Rattle·casing.specs.Reading.{{packed, fourAt}}\n\
-         use Rattle·casing.specs.Rows.{{zip, singles}}\n\
-         use Rattle·casing.proofs.Arms.{{past-four}}\n\
-         use Rattle·{krate}·specs.specs.Planes.{{plane{p}}}\n\
-         use Rattle·{krate}·specs.specs.Table.{{starts{p}, ends{p}, steps{p}, deltas{p}}}\n"
+         use Rattle.sets.proofs.Arms.{{arm, NoneBelow}}\n\
+         use Rattle.casing.specs.Reading.{{packed, four_at}}\n\
+         use Rattle.casing.specs.Rows.{{zip, singles}}\n\
+         use Rattle.casing.proofs.Arms.{{past_four}}\n\
+         use Rattle.{krate}.specs.Planes.{{plane{p}}}\n\
+         use Rattle.{krate}.specs.Table.{{starts{p}, ends{p}, steps{p}, deltas{p}}}\n"
     );
     let opens = format!("packed zip NoneBelow starts{p} ends{p} steps{p} deltas{p}");
     let list = format!("(packed (singles plane{p}))");
     let arms = words.len().div_ceil(4);
-    let past = format!("past-four {list} _ {arms} (lit≤ tt)");
-    let answers = answers(arms, &format!("arm (fourAt {list})"), &past);
+    let past = format!("past_four {list} _ {arms} (lit≤ tt) {{}}");
+    let answers = answers(0..arms, &format!("arm (four_at {list})"), at_last(&past));
     let says = "an arm for every four packed rows";
     proof(&of_rust(UNICODE_DATA), (krate, "table"), &format!("rows{p}"), says, &needs, &opens, &answers)
 }
@@ -66,25 +61,24 @@ pub fn ends(consts: &mut Consts, krate: &str, p: usize, plane: &Plane) -> File {
     consts.text_of(&function(
         &format!("plane {p}: the last number of each row"),
         &format!("end{p}(i: usize) -> u16"),
-        &[requires(&format!("i < length lists.ends{p}")), ensures(&format!("r ≡ getD lists.ends{p} i 0"))],
+        &[
+            requires(&format!("i < length lists.ends{p}")),
+            ensures(&format!("result ≡ slice_index lists.ends{p} i")),
+        ],
         &arms.collect::<Vec<_>>(),
         // no row ends there, so that no arm is merged with this one, which no index reaches
         "0",
     ));
     let needs = format!(
-        "use Prim.Native.Nat.{{ℕ}}\n\
+        "use Rattle.std.specs.Prelude.{{ℕ, get_or}}\n\
          use native.Mathlib.Omega.{{arith}}\n\
-         use lib.ListN.{{getD}}\n\
-         use Rattle·sets.proofs.Arms.{{arm, NoneBelow, none-below}}\n\
-         use Rattle·{krate}·specs.specs.Table.{{ends{p}}}\n"
+         use Rattle.sets.proofs.Arms.{{arm, NoneBelow, none_below}}\n\
+         use Rattle.{krate}.specs.Table.{{ends{p}}}\n"
     );
     let opens = format!("ends{p} NoneBelow");
     let arms = plane.ends.len();
-    let arm = format!("arm (λ (i : ℕ). getD ends{p} i 0)");
-    let arms_answered: String =
-        (1..=arms).map(|k| format!("    (λ c. {arm} (c .match .keys{k}))\n")).collect();
-    let answers =
-        format!("{arms_answered}    (λ c. absurd (omega (arith, none-below {arms} (c .match .rest)))))\n");
+    let arm = format!("arm (λ (i : ℕ). get_or ends{p} i 0)");
+    let answers = answers(0..arms, &arm, at_unreached(arms));
     let says = "an arm for each row";
     proof(&of_rust(UNICODE_DATA), (krate, "table"), &format!("end{p}"), says, &needs, &opens, &answers)
 }
@@ -99,25 +93,23 @@ pub fn multis(consts: &mut Consts, krate: &str, p: usize, plane: &Plane) -> File
     consts.text_of(&function(
         &format!("plane {p}: the multi rows"),
         &format!("multi{p}(low: u16) -> Found"),
-        &[ensures(&format!("Says r (multiple (multis planes.plane{p}) {p} low)"))],
+        &[ensures(&format!("Says result (multiple (multis planes.plane{p}) {p} low)"))],
         &arms.collect::<Vec<_>>(),
         "Found::Nothing",
     ));
-    let lists = format!("multi{p} multi{p}First multi{p}Second multi{p}Third");
+    let lists = format!("multi{p} multi{p}_first multi{p}_second multi{p}_third");
     let needs = format!(
-        "use Prim.Native.Nat.{{ℕ}}\n\
-         use Rattle·sets.proofs.Arms.{{arm}}\n\
-         use Rattle·casing.specs.Rows.{{zip, firstRow, multiple, multis}}\n\
-         use Rattle·casing.proofs.Arms.{{Unmapped, no-multi}}\n\
-         use Rattle·{krate}·specs.specs.Planes.{{plane{p}}}\n\
-         use Rattle·{krate}·specs.specs.Table.{{{}}}\n",
+        "use Rattle.std.specs.Prelude.{{ℕ}}\n\
+         use Rattle.sets.proofs.Arms.{{arm}}\n\
+         use Rattle.casing.specs.Rows.{{zip, first_row, multiple, multis}}\n\
+         use Rattle.casing.proofs.Arms.{{Unmapped, no_multi}}\n\
+         use Rattle.{krate}.specs.Planes.{{plane{p}}}\n\
+         use Rattle.{krate}.specs.Table.{{{}}}\n",
         lists.replace(' ', ", ")
     );
-    let opens = format!("zip firstRow multiple Unmapped {lists}");
-    let arm = format!("arm (λ (x : ℕ). multiple (multis plane{p}) {p} x other)");
-    let arms: String =
-        (1..=plane.multi.len()).map(|k| format!("    (λ c other. {arm} (c .match .keys{k}))\n")).collect();
-    let answers = format!("{arms}    (λ c. no-multi {lists} {p} _ (c .match .rest)))\n");
+    let opens = format!("zip first_row multiple Unmapped {lists}");
+    let arm = format!("λ other. arm (λ (x : ℕ). multiple (multis plane{p}) {p} x other)");
+    let answers = answers(plane.multi.iter(), &arm, at_last(&format!("no_multi {lists} {p} _ {{}}")));
     let says = "an arm for each multi row";
     proof(&of_rust(UNICODE_DATA), (krate, "table"), &format!("multi{p}"), says, &needs, &opens, &answers)
 }
@@ -128,18 +120,20 @@ pub fn pages(consts: &mut Consts, krate: &str, p: usize, plane: &Plane) -> File 
     consts.text_of(&function(
         &format!("plane {p}: the single rows of each page that has rows, from the first index to before the second"),
         &format!("page{p}(page: u16) -> Page"),
-        &[ensures(&format!("r ≡ pageOf lists.pages{p} page"))],
+        &[ensures(&format!("result ≡ page_of lists.pages{p} page"))],
         &arms.collect::<Vec<_>>(),
         "Page::Empty",
     ));
     let needs = format!(
-        "use Rattle·sets.proofs.Arms.{{arm}}\n\
-         use Rattle·casing.specs.Reading.{{pageOf}}\n\
-         use Rattle·casing.proofs.Arms.{{Unlisted, no-page}}\n\
-         use Rattle·{krate}·specs.specs.Table.{{pages{p}}}\n"
+        "use Rattle.sets.proofs.Arms.{{arm}}\n\
+         use Rattle.casing.specs.Reading.{{page_of}}\n\
+         use Rattle.casing.proofs.Arms.{{Unlisted, no_page}}\n\
+         use Rattle.{krate}.specs.Table.{{pages{p}}}\n"
     );
-    let opens = format!("pageOf Unlisted pages{p}");
-    let answers = answers(pages.len(), &format!("arm (pageOf pages{p})"), &format!("no-page pages{p} _"));
+    let opens = format!("page_of Unlisted pages{p}");
+    let arm = format!("arm (page_of pages{p})");
+    let answers =
+        answers(pages.iter().map(|page| page[0]), &arm, at_last(&format!("no_page pages{p} _ {{}}")));
     let says = "an arm for each page of the list";
     proof(&of_rust(UNICODE_DATA), (krate, "table"), &format!("page{p}"), says, &needs, &opens, &answers)
 }

@@ -1,6 +1,6 @@
 //! The mappings: rows and multi rows of two planes.
 
-use super::{accessors, camel, of_rust, of_unicode, File, Inputs, DECIMAL, UNICODE_DATA};
+use super::{accessors, of_rust, of_unicode, snake, File, Inputs, DECIMAL, UNICODE_DATA};
 use crate::layout::{wide, Consts, Form, Lists, POINT};
 use crate::{rows, source};
 use reference::counts::{counts, Counts};
@@ -90,7 +90,7 @@ pub fn casing(inputs: &Inputs, name: &str, lut: &str, list: &str) -> Vec<File> {
             if array && !numbers.is_empty() {
                 consts.add(&says, &constant, "u16", form, &numbers);
             }
-            specs.add(&says, &camel(&constant), form, 1, &numbers);
+            specs.add(&says, &snake(&constant), form, 1, &numbers);
         }
         if behind_match(plane) {
             proofs.push(accessors::ends(&mut consts, &krate, p, plane));

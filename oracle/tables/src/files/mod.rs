@@ -46,11 +46,9 @@ fn of_unicode(name: &str) -> String {
     format!("{name} (Unicode 17.0.0, read off ICU 78.2)")
 }
 
-/// The antt name of a constant: CHUNK_MAP is chunkMap.
-pub fn camel(constant: &str) -> String {
-    let mut words = constant.split('_').map(str::to_lowercase);
-    let first = words.next().unwrap();
-    words.fold(first, |name, word| name + &word[..1].to_uppercase() + &word[1..])
+/// The antt name of a constant: CHUNK_MAP is chunk_map.
+pub fn snake(constant: &str) -> String {
+    constant.to_lowercase()
 }
 
 fn list_of_ranges(source: &str, says: &str, name: &str, ranges: &Ranges) -> String {

@@ -1,6 +1,6 @@
 //! Printable: singletons and length lists of two planes.
 
-use super::{camel, list_of_ranges, of_rust, of_unicode, File, Inputs, BYTE, DECIMAL, PRINTABLE};
+use super::{list_of_ranges, of_rust, of_unicode, snake, File, Inputs, BYTE, DECIMAL, PRINTABLE};
 use crate::layout::{wide, Consts, Form, Lists};
 use crate::printable;
 use reference::{lists, ranges::Ranges, scalars};
@@ -22,7 +22,7 @@ pub fn printable(inputs: &Inputs) -> Vec<File> {
     let mut add = |plane: usize, says: &str, name: &str, form: Form, bytes: &[u8]| {
         let (says, name) = (format!("plane {plane}{says}"), name.replace('#', &plane.to_string()));
         consts.add(&says, &name, "u8", form, &wide(bytes));
-        specs.add(&says, &camel(&name), form, 1, &wide(bytes));
+        specs.add(&says, &snake(&name), form, 1, &wide(bytes));
     };
     for (p, table) in planes.iter().enumerate() {
         add(p, ", singletons: the high byte", "SINGLETONS#_HIGH", BYTE, &table.high);

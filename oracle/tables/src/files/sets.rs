@@ -58,7 +58,7 @@ pub fn skip(inputs: &Inputs, property: &str, module: &str, comment: &str) -> Vec
     consts.add(offsets_say, "OFFSETS", "u8", DECIMAL, &wide(&house.offsets));
     let mut table = Lists::new(&of_rust(UNICODE_DATA));
     table.add(headers_say, "headers", word, 1, &wide(&house.words()));
-    table.add("header words with the closing sum of the Rust", "rustHeaders", word, 1, &wide(&rust.words()));
+    table.add("header words with the closing sum of the Rust", "rust_headers", word, 1, &wide(&rust.words()));
     table.add(offsets_say, "offsets", DECIMAL, 1, &wide(&house.offsets));
     let mut files = vec![
         (format!("{folder}/src/table.rt"), consts.text()),
@@ -76,21 +76,19 @@ pub fn marks(inputs: &Inputs, property: &str, module: &str) -> Vec<File> {
     let mut specs = Lists::new(&of_rust(UNICODE_DATA));
     specs.add(says, "marks", Form::Hex(16), 1, &words);
     let folder = format!("table_{property}");
-    let lists = format!("Rattle·{folder}·specs.specs.Marks");
+    let lists = format!("Rattle.{folder}.specs.Marks");
     let accessor = Accessor {
         says,
         name: "marks_at",
         index: "k",
         requires: "k < length marks",
-        answers: "marksAt marks",
-        opened: vec![("Rattle·bitset.specs.Marks".to_string(), "marksAt"), (lists.clone(), "marks")],
+        answers: "marks_at marks",
+        opened: vec![("Rattle.bitset.specs.Marks".to_string(), "marks_at"), (lists.clone(), "marks")],
         arms: words.iter().copied().map(Arm::Number).collect(),
     };
     let mut code = Consts::new(&of_rust(UNICODE_DATA));
-    code.line("ghost use mathlib.Core.Path.{_≡_};");
-    code.line("ghost use Prim.Native.Nat.{_<_};");
-    code.line("ghost use lib.ListN.{length};");
-    code.line("ghost use Rattle·bitset.specs.Marks.{marksAt};");
+    code.line("ghost use Rattle.std.specs.Prelude.{◌≡◌, ◌<◌, length};");
+    code.line("ghost use Rattle.bitset.specs.Marks.{marks_at};");
     code.line(&format!("ghost use {lists}.{{marks}};"));
     code.comment("how many words there are");
     code.line(&format!("pub(crate) const MARKS_LENGTH: usize = {};", words.len()));
@@ -115,10 +113,10 @@ pub fn bitset(inputs: &Inputs, property: &str, comment: &str) -> Vec<File> {
     let mut specs = Lists::new(&of_rust(UNICODE_DATA));
     let pairs_say = "the pairs: bit 7 shift, bit 6 invert, six bits by how much";
     for (says, name, form, group, numbers) in [
-        ("the chunk of each 1,024 numbers", "chunkMap", DECIMAL, 1, wide(&table.chunk_map)),
+        ("the chunk of each 1,024 numbers", "chunk_map", DECIMAL, 1, wide(&table.chunk_map)),
         ("the chunks, 16 index bytes to each", "chunks", DECIMAL, 16, wide(&table.chunks)),
         ("the canonical words", "canonical", Form::Hex(16), 1, table.canonical.clone()),
-        ("the pairs: which canonical word", "mappedWord", DECIMAL, 1, wide(&table.mapped_word)),
+        ("the pairs: which canonical word", "mapped_word", DECIMAL, 1, wide(&table.mapped_word)),
         (pairs_say, "mapping", DECIMAL, 1, wide(&table.mapping)),
     ] {
         specs.add(says, name, form, group, &numbers);
@@ -136,8 +134,8 @@ pub fn bitset(inputs: &Inputs, property: &str, comment: &str) -> Vec<File> {
 
 /// A bitset's tables as functions. Their names are read back by `committed`.
 fn accessors(table: &Bitset, folder: &str) -> [Accessor; 3] {
-    let lists = |names| (format!("Rattle·{folder}·specs.specs.Table"), names);
-    let packed = || ("Rattle·bitset.specs.Packed".to_string(), "eight joined");
+    let lists = |names| (format!("Rattle.{folder}.specs.Table"), names);
+    let packed = || ("Rattle.bitset.specs.Packed".to_string(), "eight joined");
     let pairs = table.mapped_word.iter().zip(&table.mapping);
     let mapped = pairs.map(|(&word, &mapping)| Arm::Mapped(mapping, table.canonical[word as usize]));
     [
@@ -145,9 +143,9 @@ fn accessors(table: &Bitset, folder: &str) -> [Accessor; 3] {
             says: "the chunk of each 1,024 numbers, eight bytes to an arm, the lowest first",
             name: "chunk_map_eight",
             index: "k",
-            requires: "8 * k < length chunkMap",
-            answers: "eight chunkMap",
-            opened: vec![packed(), lists("chunkMap")],
+            requires: "8 * k < length chunk_map",
+            answers: "eight chunk_map",
+            opened: vec![packed(), lists("chunk_map")],
             arms: arms::eights(&table.chunk_map),
         },
         Accessor {
@@ -163,11 +161,11 @@ fn accessors(table: &Bitset, folder: &str) -> [Accessor; 3] {
             says: "the word of an index byte: the canonical words, and then the pairs, each by its mapping and its word",
             name: "word_at",
             index: "index",
-            requires: "index < length canonical + length mappedWord",
-            answers: "wordAt canonical mappedWord mapping",
+            requires: "index < length canonical + length mapped_word",
+            answers: "word_at canonical mapped_word mapping",
             opened: vec![
-                ("Rattle·bitset.specs.Bitsets".to_string(), "wordAt"),
-                lists("canonical mappedWord mapping"),
+                ("Rattle.bitset.specs.Bitsets".to_string(), "word_at"),
+                lists("canonical mapped_word mapping"),
             ],
             arms: table.canonical.iter().copied().map(Arm::Number).chain(mapped).collect(),
         },
@@ -178,13 +176,11 @@ fn bitset_code(table: &Bitset, folder: &str, accessors: &[Accessor]) -> String {
     let mut text = format!(
         "// Generated from {} by `oracle/make`; do not edit.\n\
         // A constant array would be built anew at each use; a `match` with an arm for each index is one load.\n\
-        ghost use mathlib.Core.Path.{{_≡_}};\n\
-        ghost use Prim.Native.Nat.{{_+_, _*_, _<_}};\n\
-        ghost use lib.ListN.{{length}};\n\
-        ghost use Rattle·bitset.specs.Bitsets.{{wordAt}};\n\
-        ghost use Rattle·bitset.specs.Packed.{{eight}};\n\
-        ghost use Rattle·{folder}·specs.specs.Table.{{chunkMap, chunks, canonical, mappedWord, mapping}};\n\
-        use bitset::core::mapped;\n\n\
+        ghost use Rattle.std.specs.Prelude.{{◌≡◌, ◌+◌, ◌*◌, ◌<◌, length}};\n\
+        ghost use Rattle.bitset.specs.Bitsets.{{word_at}};\n\
+        ghost use Rattle.bitset.specs.Packed.{{eight}};\n\
+        ghost use Rattle.{folder}.specs.Table.{{chunk_map, chunks, canonical, mapped_word, mapping}};\n\n\
+        use bitset::kernel::mapped;\n\n\
         // how many chunks of 1,024 numbers the map has\n\
         pub const CHUNK_MAP_LENGTH: usize = {};\n",
         of_rust(UNICODE_DATA),

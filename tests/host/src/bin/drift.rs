@@ -21,7 +21,7 @@ fn main() {
     let mut report = Report::default();
     agree(&mut report, "the header and the exported functions", &header, &rattle);
     agree(&mut report, "the Rust declarations and the exported functions", &rust, &rattle);
-    let archive: Vec<String> = symbols(&root.join("target/staticlib/libbecktrestle.a"));
+    let archive: Vec<String> = symbols(&root.join("crates/becktrestle/out/libbecktrestle.a"));
     let named: Vec<String> = rattle.keys().filter(|k| !k.contains('.')).cloned().collect();
     report.check(archive == named, &format!("the archive exports the {} functions and no other", named.len()));
     layouts(&mut report, &root, &header);

@@ -163,7 +163,7 @@ fn built_in(report: &mut Report) {
     for name in ["alphabetic", "titlecase", "numeric"] {
         let path = format!("{}/../../crates/table_{name}/specs/Table.antt", env!("CARGO_MANIFEST_DIR"));
         let text = std::fs::read_to_string(path).expect("the table file");
-        let headers: Vec<u32> = antt_list(&text, "rustHeaders");
+        let headers: Vec<u32> = antt_list(&text, "rust_headers");
         let offsets: Vec<u8> = antt_list(&text, "offsets").into_iter().map(|n| n as u8).collect();
         let flat: Vec<u32> = data.property(name).without_ascii().flat().into_iter().map(|n| n as u32).collect();
         report.check(check_table(&headers, &offsets) == Ok(()), &format!("the Rust table {name} is accepted"));

@@ -1,0 +1,13 @@
+-- `results::crossing::as_scalar` meets its contract: each field is what the answer's own methods promise. Assumes nothing.
+use mathlib.Core.Path.{◌∙◌, ap}
+use borrow.Author.Rules.{rules}
+use Rattle.scalar.specs.Refusals.{number, carried}
+use Rattle.results.proofs.crossing.as_scalar.Goals as goal
+
+pub returns : goal.returns
+returns c =
+    λ i.
+    record {
+      refusal = (c.number.ensures ∙ ap number c.refusal-refusal.ensures) i;
+      carried = (c.carried.ensures ∙ ap carried c.refusal-refusal.ensures) i;
+    }

@@ -1,0 +1,15 @@
+-- `results::crossing::as_sizes` meets its contract: each field is what the answer's own methods promise. Assumes nothing.
+use mathlib.Core.Path.{◌∙◌, ap}
+use borrow.Author.Rules.{rules}
+use Rattle.scalar.specs.Refusals.{number, carried}
+use Rattle.results.proofs.crossing.as_sizes.Goals as goal
+
+pub returns : goal.returns
+returns c =
+    λ i.
+    record {
+      refusal = (c.number.ensures ∙ ap number c.refusal-r.ensures) i;
+      carried = (c.carried.ensures ∙ ap carried c.refusal-r.ensures) i;
+      headers = c.headers.ensures i;
+      offsets = c.offsets.ensures i;
+    }
