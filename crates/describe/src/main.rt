@@ -1,9 +1,11 @@
 // Describes the numbers that standard input holds in lowercase hex, one a line: properties, mappings and UTF-8 bytes, or the refusal.
 #![tactic(auto)]
+
 mod number;
 
-use libc::STDOUT_FILENO;
 use lines::{Input, Number, put, put_decimal};
+use std::io;
+use std::io::{Read, Write};
 
 // A line of so many bytes or more is no number.
 const MOST_LINE: usize = 128;
@@ -12,7 +14,7 @@ const MOST_LINE: usize = 128;
 const NEARLY_FULL: usize = 60000;
 
 // How much of the output buffer is filled, and how many lines were read.
-#[derive(Drop)]
+#[derive(Clone, Copy)]
 struct Printing {
     at: usize,
     lines: u64,
@@ -35,49 +37,62 @@ fn put_line(out: &mut [u8], at: usize, line: &[u8], count: u64) -> usize {
 }
 
 // Writes out what is there once the buffer is nearly full.
-fn emptied(out: &[u8], at: usize, limit: usize) -> usize {
+fn emptied(rt: &impl Print, out: &[u8], at: usize, limit: usize) -> io::Result<usize> {
     if at < limit {
-        return at;
+        return Ok(at);
     }
     if at <= out.len() {
-        io::write_all(STDOUT_FILENO, &out[0..at]);
+        io::writer(rt).write_all(&out[0..at])?;
     }
-    0
+    Ok(0)
 }
 
-fn taken(mut p: Printing, input: Input, line: &[u8], out: &mut [u8]) -> Printing {
+fn taken(
+    rt: &impl Print,
+    mut p: Printing,
+    input: Input,
+    line: &[u8],
+    out: &mut [u8],
+) -> io::Result<Printing> {
     if !input.is_there() {
-        return p;
+        return Ok(p);
     }
     let n = input.len;
     if n > line.len() {
-        return p;
+        return Ok(p);
     }
     p.lines = after(p.lines);
     let at = put_line(out, p.at, &line[0..n], p.lines);
-    p.at = emptied(out, at, NEARLY_FULL);
-    p
+    p.at = emptied(rt, out, at, NEARLY_FULL)?;
+    Ok(p)
 }
 
-fn describe_all(piece: &mut [u8], line: &mut [u8], out: &mut [u8]) -> Input {
+fn describe_all<R: Read>(
+    rt: &impl Print,
+    reader: &mut R,
+    piece: &mut [u8],
+    line: &mut [u8],
+    out: &mut [u8],
+) -> io::Result<Input> {
     let mut input = Input::new();
     let mut p = Printing { at: 0, lines: 0 };
     let mut turns = u64::MAX;
     while turns > 0 {
-        input = lines::next_line(input, piece, line);
-        p = taken(p, input, line, out);
+        input = lines::next_line(reader, input, piece, line);
+        p = taken(rt, p, input, line, out)?;
         turns = input.turns_left(turns);
     }
-    emptied(out, p.at, 0);
-    input
+    emptied(rt, out, p.at, 0)?;
+    Ok(input)
 }
 
-fn main() {
-    let mut piece = io::large_buffer();
+fn main(rt: HostRuntime) -> io::Result<()> {
+    let mut piece = [0u8; 65536];
     let mut line = [0u8; MOST_LINE];
-    let mut out = io::large_buffer();
-    let input = describe_all(&mut piece, &mut line, &mut out);
+    let mut out = [0u8; 65536];
+    let input = describe_all(&rt, &mut rt.stdin(), &mut piece, &mut line, &mut out)?;
     if input.failed {
-        os::fail(b"standard input");
+        return Err(io::Error::other("standard input could not be read"));
     }
+    Ok(())
 }

@@ -1,7 +1,9 @@
 // Runs the bitset reader on a foreign table whose one pair has bits 6 and 7 both set, as no built-in pair has: it inverts
-#![tactic(auto)]
 // first and then shifts right by 4, so that of the numbers 0 to 63 exactly 4 to 59 are in it. Shifting first would add 60 to 63.
-use libc::STDOUT_FILENO;
+#![tactic(auto)]
+
+use std::io;
+use std::io::Write;
 
 const MAP: [u8; 1] = [0];
 
@@ -21,12 +23,12 @@ fn digit(n: u32) -> u8 {
     if contains(n) { b'1' } else { b'0' }
 }
 
-fn main() {
+fn main(rt: HostRuntime) -> io::Result<()> {
     let mut text = [b'\n'; 65];
     let mut n: u32 = 0;
     while n < 64 {
         text[n as usize] = digit(n);
         n += 1;
     }
-    io::write_all(STDOUT_FILENO, &text);
+    io::writer(&rt).write_all(&text)
 }

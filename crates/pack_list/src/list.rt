@@ -1,5 +1,6 @@
 // What each line of a list must be: its property, how many ranges it has, and then first and last of each.
 use lines::{Input, Number};
+use std::io::Read;
 
 // The longest name of a property.
 pub const MOST_NAME: usize = 64;
@@ -11,7 +12,7 @@ pub const MOST_NUMBERS: usize = 2048;
 pub const MOST_LINE: usize = 128;
 
 // What was read so far.
-#[derive(Drop)]
+#[derive(Clone, Copy)]
 pub struct Reading {
     // How many lines were in place.
     pub lines: u64,
@@ -168,21 +169,27 @@ fn taken(
     next(read, &line[0..n], name, numbers)
 }
 
-fn read_lines(piece: &mut [u8], line: &mut [u8], name: &mut [u8], numbers: &mut [u32]) -> Reading {
+fn read_lines<R: Read>(
+    reader: &mut R,
+    piece: &mut [u8],
+    line: &mut [u8],
+    name: &mut [u8],
+    numbers: &mut [u32],
+) -> Reading {
     let mut input = Input::new();
     let mut read = Reading::new();
     let mut turns = u64::MAX;
     while turns > 0 {
-        input = lines::next_line(input, piece, line);
+        input = lines::next_line(reader, input, piece, line);
         read = taken(read, input, line, name, numbers);
         turns = input.turns_left(turns);
     }
     read.finished(input)
 }
 
-// Reads standard input to its end.
-pub(crate) fn read_list(name: &mut [u8], numbers: &mut [u32]) -> Reading {
-    let mut piece = io::large_buffer();
+// Reads the reader, as standard input, to its end.
+pub(crate) fn read_list<R: Read>(reader: &mut R, name: &mut [u8], numbers: &mut [u32]) -> Reading {
+    let mut piece = [0u8; 65536];
     let mut line = [0u8; MOST_LINE];
-    read_lines(&mut piece, &mut line, name, numbers)
+    read_lines(reader, &mut piece, &mut line, name, numbers)
 }

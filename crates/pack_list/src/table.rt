@@ -1,10 +1,11 @@
 // What is printed of a list that was read: the packed table, the refusal, or the line.
 use crate::list;
 use crate::list::Reading;
-use libc::STDOUT_FILENO;
 use lines::{put, put_decimal, put_hex};
 use pack::Packed;
 use scalar::Refusal;
+use std::io;
+use std::io::Write;
 
 fn count_line(out: &mut [u8], at: usize, key: &[u8], n: u64) -> usize {
     let at = put(out, at, key);
@@ -18,10 +19,11 @@ fn header_line(out: &mut [u8], at: usize, header: u32) -> usize {
     put(out, at, b"\n")
 }
 
-fn write(out: &[u8], n: usize) {
+fn write(rt: &impl Print, out: &[u8], n: usize) -> io::Result<()> {
     if n <= out.len() {
-        io::write_all(STDOUT_FILENO, &out[0..n]);
+        io::writer(rt).write_all(&out[0..n])?;
     }
+    Ok(())
 }
 
 fn put_headers(out: &mut [u8], from: usize, headers: &[u32], n: usize) -> usize {
@@ -126,8 +128,13 @@ fn put_answer(out: &mut [u8], read: Reading, name: &[u8], numbers: &[u32]) -> us
     put_table(out, read.ranges, &name[0..k], &numbers[0..m])
 }
 
-pub(crate) fn answer(read: Reading, name: &[u8], numbers: &[u32]) {
-    let mut out = io::large_buffer();
+pub(crate) fn answer(
+    rt: &impl Print,
+    read: Reading,
+    name: &[u8],
+    numbers: &[u32],
+) -> io::Result<()> {
+    let mut out = [0u8; 65536];
     let n = put_answer(&mut out, read, name, numbers);
-    write(&out, n);
+    write(rt, &out, n)
 }

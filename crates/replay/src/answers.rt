@@ -8,14 +8,14 @@ use scalar::{Answer, Scalar, ScalarCheck};
 pub const FIRST_MAPPING: u8 = 11;
 
 // What the data says of a number: whether it is listed, and of a mapping to which numbers.
-#[derive(Drop)]
+#[derive(Clone, Copy)]
 pub struct Want {
     pub listed: bool,
     pub to: [u32; 3],
     pub count: usize,
 }
 
-#[derive(Drop)]
+#[derive(Clone, Copy)]
 pub struct Tally {
     pub compared: u64,
     pub differed: u64,

@@ -3,7 +3,7 @@ use crate::answers::{FIRST_MAPPING, Want, unlisted};
 use lines::Number;
 
 // A line of numbers: what it says of those from one to another, both ends counted.
-#[derive(Drop)]
+#[derive(Clone, Copy)]
 pub struct Row {
     pub is_good: bool,
     pub first: u32,
@@ -36,7 +36,7 @@ fn listed(first: u32, last: u32, to: [u32; 3], count: usize) -> Row {
 }
 
 // The number from a place up to a byte, or to the end; and the place after.
-#[derive(Drop)]
+#[derive(Clone, Copy)]
 struct Piece {
     number: Number,
     next: usize,
@@ -47,7 +47,7 @@ fn part(line: &[u8], from: usize, stop: u8) -> Piece {
         let number = Number::None;
         return Piece { number, next: from };
     }
-    let end = bytes::scan::find(line, from, line.len(), stop);
+    let end = lines::find(line, from, line.len(), stop);
     let number = lines::parse(&line[from..end], 16);
     Piece {
         number,

@@ -1,13 +1,14 @@
 // The sections of the data, one for each entry: each is compared at every scalar value, whether the number is listed or not.
 use crate::answers::{Tally, after};
 use crate::{answers, rows};
-use libc::STDOUT_FILENO;
 use lines::{put, put_decimal, starts_with};
+use std::io;
+use std::io::Write;
 
 // One past the last number.
 const END: u32 = 0x110000;
 
-#[derive(Drop)]
+#[derive(Clone, Copy)]
 pub struct Replay {
     // Which section this is, 0 before the first.
     pub kind: u8,
@@ -138,10 +139,11 @@ fn put_tally(out: &mut [u8], at: usize, t: Tally) -> usize {
     put(out, at, b"\n")
 }
 
-fn write(out: &[u8], n: usize) {
+fn write(rt: &impl Print, out: &[u8], n: usize) -> io::Result<()> {
     if n <= out.len() {
-        io::write_all(STDOUT_FILENO, &out[0..n]);
+        io::writer(rt).write_all(&out[0..n])?;
     }
+    Ok(())
 }
 
 fn put_section(out: &mut [u8], kind: u8, t: Tally) -> usize {
@@ -150,10 +152,10 @@ fn put_section(out: &mut [u8], kind: u8, t: Tally) -> usize {
     put_tally(out, at, t)
 }
 
-fn print_section(kind: u8, t: Tally) {
+fn print_section(rt: &impl Print, kind: u8, t: Tally) -> io::Result<()> {
     let mut out = [0u8; 128];
     let n = put_section(&mut out, kind, t);
-    write(&out, n);
+    write(rt, &out, n)
 }
 
 // The sums; or the line that is out of place, and then no sums.
@@ -168,18 +170,18 @@ fn put_end(out: &mut [u8], r: Replay) -> usize {
 }
 
 // The numbers after the last row are not listed; then the section is whole.
-fn ended(mut r: Replay) -> Replay {
+fn ended(rt: &impl Print, mut r: Replay) -> io::Result<Replay> {
     if r.kind == 0 {
-        return r;
+        return Ok(r);
     }
     let so_far = r.here;
     let here = answers::compare(so_far, r.kind, r.next, END, answers::unlisted());
-    print_section(r.kind, here);
+    print_section(rt, r.kind, here)?;
     let before = r.in_all;
     let in_all = added(before, here);
     r.in_all = in_all;
     r.sections = after(r.sections);
-    r
+    Ok(r)
 }
 
 fn begun(mut r: Replay, kind: u8) -> Replay {
@@ -216,35 +218,35 @@ fn row_taken(mut r: Replay, line: &[u8]) -> Replay {
 }
 
 // The next line; after one that is out of place nothing is looked at.
-pub(crate) fn next(mut r: Replay, line: &[u8]) -> Replay {
+pub(crate) fn next(rt: &impl Print, mut r: Replay, line: &[u8]) -> io::Result<Replay> {
     if r.out_of_place != 0 {
-        return r;
+        return Ok(r);
     }
     r.lines = after(r.lines);
     if starts_with(line, b"#") {
         let kind = kind_of(line);
         if kind == 0 {
-            return r;
+            return Ok(r);
         }
-        return begun(ended(r), kind);
+        return Ok(begun(ended(rt, r)?, kind));
     }
     if r.kind == 0 {
-        return r.misplaced();
+        return Ok(r.misplaced());
     }
-    row_taken(r, line)
+    Ok(row_taken(r, line))
 }
 
-fn closed(r: Replay) -> Replay {
+fn closed(rt: &impl Print, r: Replay) -> io::Result<Replay> {
     if r.out_of_place != 0 {
-        return r;
+        return Ok(r);
     }
-    ended(r)
+    ended(rt, r)
 }
 
 // What is left to compare, and the last line.
-pub(crate) fn finish(r: Replay) {
-    let r = closed(r);
+pub(crate) fn finish(rt: &impl Print, r: Replay) -> io::Result<()> {
+    let r = closed(rt, r)?;
     let mut out = [0u8; 128];
     let n = put_end(&mut out, r);
-    write(&out, n);
+    write(rt, &out, n)
 }

@@ -1,9 +1,11 @@
 // Prints, for each of the three skip tables, what stands in the list that it unpacks to, and how long the table is.
 #![tactic(auto)]
+
 ghost use Rattle.std.specs.Prelude.{◌≤◌, length};
 
-use libc::STDOUT_FILENO;
 use lines::{put, put_decimal, put_hex};
+use std::io;
+use std::io::Write;
 use unpack::Unpacked;
 
 // What the most ranges unpack to, and two numbers more.
@@ -114,45 +116,49 @@ fn put_table(out: &mut [u8], name: &[u8], headers: &[u32], offsets: &[u8]) -> us
     put_sizes(out, at, headers.len(), offsets.len())
 }
 
-fn write(out: &[u8], n: usize) {
+fn write(rt: &impl Print, out: &[u8], n: usize) -> io::Result<()> {
     if n <= out.len() {
-        io::write_all(STDOUT_FILENO, &out[0..n]);
+        io::writer(rt).write_all(&out[0..n])?;
     }
+    Ok(())
 }
 
-fn show(name: &[u8], headers: &[u32], offsets: &[u8]) {
+fn show(rt: &impl Print, name: &[u8], headers: &[u32], offsets: &[u8]) -> io::Result<()> {
     let mut out = [0u8; 256];
     let n = put_table(&mut out, name, headers, offsets);
-    write(&out, n);
+    write(rt, &out, n)
 }
 
 // One function for each table: the literal of a const array is written out wherever it is named.
-fn show_alphabetic() {
+fn show_alphabetic(rt: &impl Print) -> io::Result<()> {
     show(
+        rt,
         b"alphabetic",
         &table_alphabetic::table::HEADERS,
         &table_alphabetic::table::OFFSETS,
-    );
+    )
 }
 
-fn show_titlecase() {
+fn show_titlecase(rt: &impl Print) -> io::Result<()> {
     show(
+        rt,
         b"titlecase",
         &table_titlecase::table::HEADERS,
         &table_titlecase::table::OFFSETS,
-    );
+    )
 }
 
-fn show_numeric() {
+fn show_numeric(rt: &impl Print) -> io::Result<()> {
     show(
+        rt,
         b"numeric",
         &table_numeric::table::HEADERS,
         &table_numeric::table::OFFSETS,
-    );
+    )
 }
 
-fn main() {
-    show_alphabetic();
-    show_titlecase();
-    show_numeric();
+fn main(rt: HostRuntime) -> io::Result<()> {
+    show_alphabetic(&rt)?;
+    show_titlecase(&rt)?;
+    show_numeric(&rt)
 }

@@ -1,0 +1,11 @@
+-- The lent buffers keep their lengths; the loop counts down. Assumes nothing.
+use Rattle.std.proofs.Common.{◌≡◌, length}
+use Rattle.pack_list.proofs.list.read_lines.Given as goal
+
+abbrev pub invariant-loop-turns : goal.invariant-loop-turns
+invariant-loop-turns g l =
+    (length l.piece ≡ length l.initial.piece) × (length l.line ≡ length l.initial.line) × (length l.name ≡ length l.initial.name)
+    × (length l.numbers ≡ length l.initial.numbers)
+
+abbrev pub decreases-loop-turns : goal.decreases-loop-turns
+decreases-loop-turns g l = l.turns
