@@ -30,7 +30,7 @@ pub struct Four {
 
 // Among the rows from first to before last: the first that does not end below x, or last.
 pub fn row_at(ends: &[u16], first: usize, last: usize, x: u16) -> usize
-    requires ends_value { apart 0 ends.now ends.now ≡ true }
+    requires ends_apart { apart 0 ends.now ends.now ≡ true }
     requires first_le_last { (first ≤ last) × (last ≤ length ends.now) }
     ensures { Halved ends.now first last x result }
 {

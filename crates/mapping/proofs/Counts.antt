@@ -9,7 +9,7 @@ use Rattle.scalar.specs.Refusals.{number}
 use Rattle.scalar.specs.declared.refusal.Refusal.{Refusal}
 use Rattle.scalar.specs.declared.refusal.Refusal.TheVariants as refusal
 use Rattle.casing.specs.declared.Mapping.{Mapping}
-use Rattle.casing.specs.Answers.{refused, used, made}
+use Rattle.casing.specs.Answers.{refused, made}
 use Rattle.casing.specs.Rows.{Row, first_row}
 use Rattle.casing.specs.Listed.{quads, row_of, mapping_of}
 
@@ -19,11 +19,11 @@ pub record Counted (m : Mapping) : Type 0 where
   pub answered : number m.refusal ≡ 0 → 1 ≤ m.count
   pub not_answered : (number m.refusal ≡ 0 → ⊥) → m.count ≡ 0
 
-get_d_beyond : (a b c k : ℕ) → 3 ≤ k → get_or (a ∷ b ∷ c ∷ []) k 0 ≡ 0
-get_d_beyond a b c zero l = absurd (omega arith)
-get_d_beyond a b c (suc zero) l = absurd (omega arith)
-get_d_beyond a b c (suc (suc zero)) l = absurd (omega arith)
-get_d_beyond a b c (suc (suc (suc k))) l = refl
+get_or_beyond : (a b c k : ℕ) → 3 ≤ k → get_or (a ∷ b ∷ c ∷ []) k 0 ≡ 0
+get_or_beyond a b c zero l = absurd (omega arith)
+get_or_beyond a b c (suc zero) l = absurd (omega arith)
+get_or_beyond a b c (suc (suc zero)) l = absurd (omega arith)
+get_or_beyond a b c (suc (suc (suc k))) l = refl
 
 module _ (a b c : ℕ) where
   past_made : (s t : Bool) → eqb c 0 ≡ s → eqb b 0 ≡ t → (k : ℕ) → cond s (cond t 1 2) 3 ≤ k → get_or (a ∷ b ∷ c ∷ []) k 0 ≡ 0
@@ -35,7 +35,7 @@ module _ (a b c : ℕ) where
   past_made true false p q (suc zero) l = absurd (omega arith)
   past_made true false p q (suc (suc zero)) l = eqb-true c 0 p
   past_made true false p q (suc (suc (suc k))) l = refl
-  past_made false t p q k l = get_d_beyond a b c k l
+  past_made false t p q k l = get_or_beyond a b c k l
 
   one_to_three : (s t : Bool) → (cond s (cond t 1 2) 3 ≤ 3) × (1 ≤ cond s (cond t 1 2) 3)
   one_to_three true true = (omega arith, omega arith)

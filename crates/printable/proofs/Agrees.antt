@@ -91,7 +91,7 @@ module _ (x : ℕ) where
       (λ h. let k : last + 1 ≤ x = omega arith in rw (lt-leb x last h, le-ltb x (last + 1) k) refl)
       (split x last)
 
-  -- half_open spans are the edges of a flat list
+  -- half-open spans are the edges of a flat list
   spans_hold : (l : List ℕ) → in_spans (edges l) x ≡ holds l x
   unfolding in_spans edges holds
   spans_hold [] = refl

@@ -3,7 +3,7 @@ use Rattle.std.specs.Prelude.{ℕ, ◌%◌, List, [], ◌∷◌, Bool, true, fal
 use Rattle.runs.specs.Tables.{printable_by}
 use Rattle.printable.specs.Table.{singletons0_high, singletons0_count, singletons0_low, normal0, singletons1_high, singletons1_count, singletons1_low, normal1}
 
--- the nine half_open spans of 001, from 0x20000 on: first and end of each
+-- the nine half-open spans of 001, from 0x20000 on: first and end of each
 unfoldable pub spans : List ℕ
 spans =
     0x2A6E0 ∷ 0x2A700 ∷ 0x2B81E ∷ 0x2B820 ∷ 0x2CEAE ∷ 0x2CEB0 ∷ 0x2EBE1 ∷ 0x2EBF0 ∷ 0x2EE5E ∷ 0x2F800 ∷ 0x2FA1E ∷ 0x30000 ∷
@@ -26,7 +26,7 @@ abbrev pub plane1 : ℕ → Bool
 plane1 low = printable_by singletons1_high singletons1_count singletons1_low normal1 low
 
 -- "Below 32 no; 32 to 126 yes. From 127 to 0x1FFFF, by the low 16 bits and the plane's tables .. From 0x20000 on, no in
--- the nine half_open spans of 001, else yes."
+-- the nine half-open spans of 001, else yes."
 unfoldable pub by_tables : ℕ → Bool
 by_tables x =
     cond (ltb x 32) false

@@ -9,7 +9,7 @@ use Rattle.scalar.specs.declared.ScalarCheck.TheVariants as check
 use Rattle.scalar.specs.declared.Answer.TheVariants as answer
 use Rattle.scalar.specs.declared.refusal.Refusal.{Refusal}
 use Rattle.scalar.specs.declared.refusal.Refusal.TheVariants as refusal
-use Rattle.scalar.proofs.Answers.{IsScalar, refused_as, valid_as, valid_scalar, valid_value}
+use Rattle.scalar.proofs.Answers.{refused_as, valid_as, valid_scalar, valid_value}
 
 module _ (f : ℕ → Bool) (n : ℕ) (k : ScalarCheck) (is : k ≡ checked n) where
   pub refused : (r r' : Refusal) → k ≡ check.Refused r → r' ≡ refusal_of k → answer.Refused r' ≡ answered f n

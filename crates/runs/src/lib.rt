@@ -1,6 +1,7 @@
 // The printable tables' two formats, read from any bytes: length lists, whose runs are yes and no by turns, and listed
-#![tactic(auto)]
 // singletons.
+#![tactic(auto)]
+
 ghost use Rattle.std.specs.Prelude.{◌≡◌};
 ghost use Rattle.runs.specs.Tables.{printable_by};
 

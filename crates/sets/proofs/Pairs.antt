@@ -18,7 +18,7 @@ fits_says low a b h =
       leb-true b 0x10FFFF (and_right (leb low a && leb a b) (leb b 0x10FFFF) h),
     )
 
-module _ (l : List ℕ) (at : ℕ) (in_List : at + 1 < length l) where
+module _ (l : List ℕ) (at : ℕ) (in_list : at + 1 < length l) where
   two_on : at + 1 + 1 ≡ at + 2
   two_on = omega arith
 
@@ -26,7 +26,7 @@ module _ (l : List ℕ) (at : ℕ) (in_List : at + 1 < length l) where
     bad_pair : bad_at i low (drop at l)
         ≡ cond (fits low (get_or l at 0) (get_or l (at + 1) 0)) (bad_at (i + 1) (get_or l (at + 1) 0 + 2) (drop (at + 2) l)) i
     unfolding bad_at
-    bad_pair = rw (from l at (omega arith), from l (at + 1) in_List, two_on) refl
+    bad_pair = rw (from l at (omega arith), from l (at + 1) in_list, two_on) refl
 
     pub bad_on : fits low (get_or l at 0) (get_or l (at + 1) 0) ≡ true
         → bad_at i low (drop at l) ≡ bad_at (i + 1) (get_or l (at + 1) 0 + 2) (drop (at + 2) l)
@@ -38,7 +38,7 @@ module _ (l : List ℕ) (at : ℕ) (in_List : at + 1 < length l) where
   module _ (x : ℕ) where
     holds_pair : holds (drop at l) x ≡ (between (get_or l at 0) (get_or l (at + 1) 0) x || holds (drop (at + 2) l) x)
     unfolding holds
-    holds_pair = rw (from l at (omega arith), from l (at + 1) in_List, two_on) refl
+    holds_pair = rw (from l at (omega arith), from l (at + 1) in_list, two_on) refl
 
     pub holds_here : between (get_or l at 0) (get_or l (at + 1) 0) x ≡ true → holds (drop at l) x ≡ true
     holds_here t = holds_pair ∙ rw t refl

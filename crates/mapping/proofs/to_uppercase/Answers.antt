@@ -2,7 +2,6 @@
 use mathlib.Core.Path.{◌∙◌, ap}
 use Rattle.casing.specs.Answers.{refused}
 use Rattle.mapping.proofs.Entries.{refused_entry, valid_entry}
-use borrow.Author.Rules.{rules}
 use Rattle.mapping.proofs.to_uppercase.Goals as goal
 
 pub returns-in_default : goal.returns-in_default

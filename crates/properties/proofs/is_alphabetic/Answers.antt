@@ -1,5 +1,4 @@
 -- `properties::is_alphabetic` meets its contract, as every entry does. Assumes nothing.
-use borrow.Author.Rules.{rules}
 use Rattle.properties.specs.Properties.{alphabetic}
 use Rattle.properties.proofs.Entries.{refused, given, bounded}
 use Rattle.properties.proofs.is_alphabetic.Goals as goal

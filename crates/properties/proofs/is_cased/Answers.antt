@@ -1,5 +1,4 @@
 -- `properties::is_cased` meets its contract, as every entry does. Assumes nothing.
-use borrow.Author.Rules.{rules}
 use Rattle.properties.specs.Properties.{cased}
 use Rattle.properties.proofs.Entries.{refused, given, bounded}
 use Rattle.properties.proofs.is_cased.Goals as goal

@@ -1,5 +1,4 @@
 -- `properties::is_lowercase` meets its contract, as every entry does. Assumes nothing.
-use borrow.Author.Rules.{rules}
 use Rattle.properties.specs.Properties.{lowercase}
 use Rattle.properties.proofs.Entries.{refused, given}
 use Rattle.properties.proofs.is_lowercase.Goals as goal

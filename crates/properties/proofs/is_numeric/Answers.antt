@@ -1,5 +1,4 @@
 -- `properties::is_numeric` meets its contract, as every entry does. Assumes nothing.
-use borrow.Author.Rules.{rules}
 use Rattle.properties.specs.Properties.{numeric}
 use Rattle.properties.proofs.Entries.{refused, given, bounded}
 use Rattle.properties.proofs.is_numeric.Goals as goal

@@ -1,5 +1,4 @@
 -- `properties::is_uppercase` meets its contract, as every entry does. Assumes nothing.
-use borrow.Author.Rules.{rules}
 use Rattle.properties.specs.Properties.{uppercase}
 use Rattle.properties.proofs.Entries.{refused, given}
 use Rattle.properties.proofs.is_uppercase.Goals as goal

@@ -1,6 +1,5 @@
 -- `unpack::after` meets its contract: each return rewrites with the test that led there. Assumes nothing.
 use mathlib.Core.Path.{refl}
-use borrow.Author.Rules.{rules}
 use Rattle.unpack.proofs.after.Goals as goal
 
 pub returns-then-listed : goal.returns-then-listed

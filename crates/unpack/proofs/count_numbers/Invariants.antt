@@ -1,13 +1,8 @@
 -- `unpack::count_numbers` meets its contract. The invariant: the numbers counted and those that the rest of the walk lists
 -- are all there are, and the boundary so far is at most 0x10FFFF. The measure is the offsets left. Assumes nothing.
-use Rattle.std.specs.Prelude.{◌≡◌, ◌+◌, ◌-◌, ◌≤◌, false, [], length, drop}
-use mathlib.Core.Path.{refl}
-use mathlib.Core.Logic.{⊎_elim}
-use native.Mathlib.Omega.{arith}
-use borrow.Author.Rules.{rules}
+use Rattle.std.specs.Prelude.{◌≡◌, ◌+◌, ◌-◌, ◌≤◌, false, length, drop}
 use Rattle.skip.specs.Table.{walk, boundaries}
-use Rattle.unpack.specs.Flow.{when, flow, numbers}
-use Rattle.unpack.proofs.Flows.{off_offsets, off_headers, off_top, turn, next_most, count_on, count_end}
+use Rattle.unpack.specs.Flow.{flow, numbers}
 use Rattle.unpack.proofs.count_numbers.Given as goal
 
 abbrev pub invariant-loop-i : goal.invariant-loop-i

@@ -1,6 +1,5 @@
 -- `unpack::number_of` meets its contract: each return rewrites with the test that led there. Assumes nothing.
 use mathlib.Core.Path.{refl}
-use borrow.Author.Rules.{rules}
 use borrow.Author.Tests.{eq-eqb, ne_eqb}
 use Rattle.unpack.proofs.number_of.Goals as goal
 

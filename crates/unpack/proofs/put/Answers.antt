@@ -1,6 +1,5 @@
 -- `unpack::put` meets its contract: each return rewrites with the test that led there. Assumes nothing.
 use mathlib.Core.Path.{refl}
-use native.Mathlib.Omega.{arith}
 use borrow.Author.Rules.{rules}
 use Rattle.unpack.proofs.put.Goals as goal
 

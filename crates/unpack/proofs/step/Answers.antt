@@ -1,7 +1,6 @@
 -- `unpack::step` meets its contract: the test says whether this is the run's last offset. Assumes nothing.
 use mathlib.Core.Path.{◌∙◌, sym, refl}
 use native.Mathlib.Omega.{arith}
-use borrow.Author.Rules.{rules}
 use borrow.Author.Tests.{eq-eqb, ne_eqb}
 use Rattle.unpack.proofs.step.Goals as goal
 

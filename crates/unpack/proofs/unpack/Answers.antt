@@ -2,7 +2,6 @@
 -- decides, and the writer's own promise gives the buffer. Assumes nothing.
 use Rattle.std.specs.Prelude.{◌≡◌, ℕ, ◌≤◌, List, length}
 use mathlib.Core.Path.{◌∙◌, sym, ap}
-use borrow.Author.Rules.{rules}
 use Rattle.sets.proofs.Decide.{and_right}
 use Rattle.skip.specs.Rules.{sized, W1, W2, W3, W4, W5, broken}
 use Rattle.skip.specs.Answers.{check_refusal}

@@ -1,14 +1,13 @@
 -- `unpack::write_numbers` meets its contract. The invariant: the buffer is the first m of the numbers to be written, then
 -- what it was, and the numbers from m on are those that the rest of the walk lists. The measure is the offsets left.
 -- Assumes nothing.
-use Rattle.std.specs.Prelude.{◌≡◌, ℕ, ◌-◌, ◌≤◌, false, List, [], length, drop}
+use Rattle.std.specs.Prelude.{◌≡◌, [], length, drop}
 use mathlib.Core.Path.{refl}
-use mathlib.Core.Logic.{⊎_elim}
 use native.Mathlib.Omega.{arith}
 use borrow.Author.Rules.{rules}
-use Rattle.skip.specs.Table.{walk, boundaries}
+use Rattle.skip.specs.Table.{walk}
 use Rattle.unpack.specs.Flow.{when, flow, numbers}
-use Rattle.unpack.proofs.Flows.{off_offsets, off_headers, off_top, turn, next_most, Written, same_size, all_written, next_room, next_store, last_room, last_store}
+use Rattle.unpack.proofs.Flows.{off_offsets, off_headers, off_top, turn, next_most, Written, all_written, next_room, next_store, last_room, last_store}
 use Rattle.unpack.proofs.write_numbers.Invariants.{target}
 use Rattle.unpack.proofs.write_numbers.Goals as goal
 use Rattle.unpack.proofs.write_numbers.Goals.{else-loop-i-test, then-loop-i-test+then-k-headers, then-loop-i-test+else-k-headers+then-b-gt-MAX}

@@ -1,14 +1,10 @@
 -- `unpack::write_numbers` meets its contract. The invariant: the buffer is the first m of the numbers to be written, then
 -- what it was, and the numbers from m on are those that the rest of the walk lists. The measure is the offsets left.
 -- Assumes nothing.
-use Rattle.std.specs.Prelude.{◌≡◌, ℕ, ◌-◌, ◌≤◌, false, List, [], length, drop}
-use mathlib.Core.Path.{refl}
-use mathlib.Core.Logic.{⊎_elim}
-use native.Mathlib.Omega.{arith}
-use borrow.Author.Rules.{rules}
+use Rattle.std.specs.Prelude.{◌≡◌, ℕ, ◌-◌, ◌≤◌, false, List, length, drop}
 use Rattle.skip.specs.Table.{walk, boundaries}
-use Rattle.unpack.specs.Flow.{when, flow, numbers}
-use Rattle.unpack.proofs.Flows.{off_offsets, off_headers, off_top, turn, next_most, Written, same_size, all_written, next_room, next_store, last_room, last_store}
+use Rattle.unpack.specs.Flow.{flow, numbers}
+use Rattle.unpack.proofs.Flows.{Written}
 use Rattle.unpack.proofs.write_numbers.Given as goal
 
 -- what is to be written

@@ -13,7 +13,7 @@ pub loop-lo-preserved-then-ends-mid : goal.loop-lo-preserved-then-ends-mid
 loop-lo-preserved-then-ends-mid c =
     let turn = c.loop-lo in
     let start = c in
-    move_lo start.args.ends.now _ _ _ _ _ turn.invariant c.requires.ends_value c.requires.first_le_last.1 (turn.lo + (turn.hi - turn.lo) / 2) (omega arith) (omega arith) c.if-ends-mid.true
+    move_lo start.args.ends.now _ _ _ _ _ turn.invariant c.requires.ends_apart c.requires.first_le_last.1 (turn.lo + (turn.hi - turn.lo) / 2) (omega arith) (omega arith) c.if-ends-mid.true
 
 pub loop-lo-preserved : goal.loop-lo-preserved
 loop-lo-preserved c =

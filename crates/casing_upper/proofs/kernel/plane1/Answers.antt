@@ -16,7 +16,7 @@ pub row_at-i-requires : goal.row_at-i-requires
 unfolding ends1
 row_at-i-requires c =
     let rows = page_rows plane1 pages1 readable1 _ _ _ (sym c.in-Rows.is ∙ c.page1.ensures) in
-    record { ends_value = rows.0; first_le_last = rows.1 }
+    record { ends_apart = rows.0; first_le_last = rows.1 }
 
 pub returns-then-i-last : goal.returns-then-i-last
 unfolding ends1

@@ -1,5 +1,4 @@
 -- `encoding::utf8::write_two` meets its contract: the stores are the row of the table. Assumes nothing.
-use native.Mathlib.Omega.{arith}
 use lib.ListN.{length-set}
 use Rattle.encoding.specs.Tables.{two_bytes}
 use Rattle.encoding.proofs.Bits.{lowest}

@@ -2,7 +2,6 @@
 use Prim.Native.Nat.{zero-le}
 use mathlib.Core.Path.{◌∙◌, sym, refl}
 use native.Mathlib.Omega.{arith}
-use borrow.Author.Rules.{rules}
 use Rattle.sets.specs.Lists.{holds}
 use Rattle.properties.specs.Control.{unicode}
 use Rattle.properties.proofs.Ranges.{or-false, within, outside}

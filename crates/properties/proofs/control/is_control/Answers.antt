@@ -1,5 +1,4 @@
 -- `properties::control::is_control` meets its contract, as every entry does. Assumes nothing.
-use borrow.Author.Rules.{rules}
 use Rattle.properties.specs.Properties.{control}
 use Rattle.properties.proofs.Entries.{refused, given}
 use Rattle.properties.proofs.control.is_control.Goals as goal

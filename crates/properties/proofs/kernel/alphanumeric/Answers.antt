@@ -1,6 +1,5 @@
 -- `properties::kernel::alphanumeric` meets its contract: each answer rewrites with the test that led there. Assumes nothing.
 use mathlib.Core.Path.{◌∙◌, sym, refl}
-use borrow.Author.Rules.{rules}
 use Rattle.properties.proofs.kernel.alphanumeric.Goals as goal
 
 pub returns-then-alphabetic : goal.returns-then-alphabetic

@@ -1,6 +1,5 @@
 -- `properties::kernel::cased` meets its contract: each answer rewrites with the tests that led there. Assumes nothing.
 use mathlib.Core.Path.{◌∙◌, sym, refl}
-use borrow.Author.Rules.{rules}
 use Rattle.properties.proofs.kernel.cased.Goals as goal
 
 pub returns-then-lowercase : goal.returns-then-lowercase

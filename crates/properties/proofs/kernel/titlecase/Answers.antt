@@ -1,7 +1,6 @@
 -- `properties::kernel::titlecase` meets its contract: the floor and the table make Unicode's list. Assumes nothing.
 use native.Mathlib.Omega.{arith}
 use mathlib.Core.Path.{refl}
-use borrow.Author.Rules.{rules}
 use Rattle.sets.specs.Lists.{holds}
 use Rattle.unicode_laws.proofs.Parts.{ascii_no, from_table}
 use Rattle.table_titlecase.specs.Flat.{flat}

@@ -1,7 +1,6 @@
 -- `properties::kernel::uppercase` meets its contract: the ASCII part, the floor and the table make Unicode's list. Assumes nothing.
 use mathlib.Core.Path.{◌∙◌, sym, refl}
 use native.Mathlib.Omega.{arith}
-use borrow.Author.Rules.{rules}
 use Rattle.sets.specs.Lists.{holds}
 use Rattle.unicode_laws.proofs.Parts.{ascii_yes, ascii_no, from_table}
 use Rattle.table_uppercase.specs.Flat.{flat}

@@ -1,5 +1,4 @@
 -- `properties::whitespace::is_whitespace` meets its contract, as every entry does. Assumes nothing.
-use borrow.Author.Rules.{rules}
 use Rattle.properties.specs.Properties.{whitespace}
 use Rattle.properties.proofs.Entries.{refused, given}
 use Rattle.properties.proofs.whitespace.is_whitespace.Goals as goal

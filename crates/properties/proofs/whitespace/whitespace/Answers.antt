@@ -1,13 +1,12 @@
 -- `properties::whitespace::whitespace` meets its contract: the ASCII part, the floor and the other spaces make Unicode's list. Assumes nothing.
 use mathlib.Core.Path.{◌∙◌, sym, refl}
 use native.Mathlib.Omega.{arith}
-use borrow.Author.Rules.{rules}
 use Rattle.sets.specs.Lists.{holds}
 use Rattle.unicode_laws.proofs.Parts.{ascii_yes, ascii_no, from_table}
 use Rattle.properties.specs.WhiteSpace.{unicode}
 use Rattle.properties.specs.Properties.{other_spaces}
 use Rattle.properties.proofs.Spaces.{ascii, parts}
-use Rattle.properties.proofs.Ranges.{or_true, within, outside}
+use Rattle.properties.proofs.Ranges.{outside}
 use Rattle.properties.proofs.whitespace.whitespace.Goals as goal
 
 pub returns-then-is_between : goal.returns-then-is_between

@@ -1,6 +1,5 @@
 -- `results::crossing::as_sought` meets its contract: each field is what the answer's own methods promise. Assumes nothing.
 use mathlib.Core.Path.{◌∙◌, ap}
-use borrow.Author.Rules.{rules}
 use Rattle.scalar.specs.Refusals.{number, carried}
 use Rattle.results.proofs.crossing.as_sought.Goals as goal
 

@@ -1,11 +1,11 @@
 -- `skip::rules::sums_rise` meets its contract. The invariant: what is left of W4 from header k on, with `low` the least sum
 -- that may come, is the whole. The measure is the headers left. Assumes nothing.
-use Rattle.std.specs.Prelude.{◌<◌, ◌≤◌, get_or}
+use Rattle.std.specs.Prelude.{◌≤◌, get_or}
 use mathlib.Core.Path.{◌∙◌, sym, refl}
 use native.Mathlib.Omega.{arith}
 use borrow.Author.Rules.{rules}
 use Rattle.skip.specs.Headers.{prefix_sum}
-use Rattle.skip.proofs.Steps.{W4-more, W4-cut, W4-end}
+use Rattle.skip.proofs.Steps.{W4-more, W4-end}
 use Rattle.skip.proofs.rules.sums_rise.Goals as goal
 
 pub loop-k-init : goal.loop-k-init
