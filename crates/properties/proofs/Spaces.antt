@@ -1,14 +1,15 @@
 -- Unicode's list of whitespace is its two ASCII ranges and the other spaces, which start at 0x85; and the other spaces
 -- are six single numbers and two ranges. Computed, or by a test of each range. Assumes nothing.
-use Rattle.std.specs.Prelude.{◌≡◌, ℕ, ◌≤◌, true, false, List, [], ◌∷◌}
+use Rattle.std.specs.Prelude.{◌≡◌, ℕ, ◌<◌, ◌≤◌, true, false, List, [], ◌∷◌}
 use mathlib.Core.Path.{refl}
 use mathlib.Core.Logic.{inl, inr, ⊎_elim}
 use native.Mathlib.Omega.{arith}
 use types.Run.{OneOf}
+use Rattle.scalar.specs.Scalars.{between}
 use Rattle.sets.specs.Lists.{edges, holds}
 use Rattle.sets.proofs.Members.{rising}
 use Rattle.bitset.specs.Bitsets.{all_below}
-use Rattle.unicode_laws.proofs.Parts.{Parts}
+use Rattle.unicode_laws.proofs.Parts.{Parts, ascii_no}
 use Rattle.properties.specs.WhiteSpace.{unicode}
 use Rattle.properties.specs.Properties.{other_spaces}
 use Rattle.properties.proofs.Ranges.{within, outside}
@@ -47,3 +48,9 @@ module _ (n : ℕ) where
   unfolding holds unicode
   no_space none no-wide no-separator =
       rw (outside 0x85 0x85 n (λ a b. none (inl (omega arith))), outside 0xA0 0xA0 n (λ a b. none (inr (inl (omega arith)))), outside 0x1680 0x1680 n (λ a b. none (inr (inr (inl (omega arith))))), outside 0x2000 0x200A n no-wide, outside 0x2028 0x2029 n no-separator, outside 0x202F 0x202F n (λ a b. none (inr (inr (inr (inl (omega arith)))))), outside 0x205F 0x205F n (λ a b. none (inr (inr (inr (inr (inl (omega arith))))))), outside 0x3000 0x3000 n (λ a b. none (inr (inr (inr (inr (inr (omega arith)))))))) refl
+
+-- below the floor a number is no space where it is none of ASCII's
+pub no_space_below : (n : ℕ) → between 9 13 n ≡ false → (n ≡ 0x20 → ⊥) → n < 0x85 → false ≡ holds unicode n
+unfolding holds
+no_space_below n none other low =
+    ascii_no unicode ascii other_spaces 0x85 parts n (rw (none, outside 0x20 0x20 n (λ p q. other (omega arith))) refl) low

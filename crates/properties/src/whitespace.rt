@@ -19,6 +19,7 @@ fn other_whitespace(n: u32) -> bool
     }
 }
 
+#[tactic(auto, using(crate::proofs::Spaces::no_space_below))]
 fn whitespace(n: u32) -> bool
     ensures { result ≡ whitespace n }
 {

@@ -2,11 +2,10 @@
 use mathlib.Core.Path.{◌∙◌, sym, refl}
 use native.Mathlib.Omega.{arith}
 use Rattle.sets.specs.Lists.{holds}
-use Rattle.unicode_laws.proofs.Parts.{ascii_yes, ascii_no, from_table}
+use Rattle.unicode_laws.proofs.Parts.{ascii_yes, from_table}
 use Rattle.properties.specs.WhiteSpace.{unicode}
 use Rattle.properties.specs.Properties.{other_spaces}
 use Rattle.properties.proofs.Spaces.{ascii, parts}
-use Rattle.properties.proofs.Ranges.{outside}
 use Rattle.properties.proofs.whitespace.whitespace.Goals as goal
 
 pub returns-then-is_between : goal.returns-then-is_between
@@ -17,14 +16,6 @@ returns-then-is_between c =
 pub returns-then-n-eq32 : goal.returns-then-n-eq32
 unfolding holds
 returns-then-n-eq32 c = ascii_yes unicode ascii other_spaces 0x85 parts c.args.n (rw c.if-n-eq32.true refl)
-
-pub returns-then-n-lt133 : goal.returns-then-n-lt133
-unfolding holds
-returns-then-n-lt133 c =
-    let n = c.args.n in
-    ascii_no unicode ascii other_spaces 0x85 parts n
-    (rw (sym c.is_between.ensures ∙ c.if-is_between.false, outside 0x20 0x20 n (λ p q. c.if-n-eq32.false (omega arith))) refl)
-    c.if-n-lt133.true
 
 pub returns : goal.returns
 returns c =
