@@ -1,6 +1,6 @@
 -- Any two results that a promise of the boundary allows are equal, and so is what memory holds. Assumes nothing.
 use mathlib.Core.Path.{◌≡◌, ◌∙◌, sym, ap}
-use Rattle.results.specs.Results.{Crosses, length_of, sizes_of, numbers_of}
+use Rattle.results.specs.Results.{Crosses, count_of, sizes_of}
 use Rattle.becktrestle.proofs.characters.becktrestle_is_alphabetic.Reads as is_alphabetic
 use Rattle.becktrestle.proofs.characters.becktrestle_is_lowercase.Reads as is_lowercase
 use Rattle.becktrestle.proofs.characters.becktrestle_is_uppercase.Reads as is_uppercase
@@ -73,11 +73,11 @@ becktrestle_len_utf16_fixed κs a r r' s s' p q = crosses_same _ p q (p.promised
 
 becktrestle_encode_utf8_fixed : (κs : _) (a : _) (r r' : _) (s s' : _) → encode_utf8.Post κs a r s → encode_utf8.Post κs a r' s' → (r ≡ r') × (s.1.0.now ≡ s'.1.0.now)
 becktrestle_encode_utf8_fixed κs a r r' s s' p q =
-    (crosses_same length_of p q (p.promised.answers ∙ sym q.promised.answers), p.promised.leaves ∙ sym q.promised.leaves)
+    (crosses_same count_of p q (p.promised.answers ∙ sym q.promised.answers), p.promised.leaves ∙ sym q.promised.leaves)
 
 becktrestle_encode_utf16_fixed : (κs : _) (a : _) (r r' : _) (s s' : _) → encode_utf16.Post κs a r s → encode_utf16.Post κs a r' s' → (r ≡ r') × (s.1.0.now ≡ s'.1.0.now)
 becktrestle_encode_utf16_fixed κs a r r' s s' p q =
-    (crosses_same length_of p q (p.promised.answers ∙ sym q.promised.answers), p.promised.leaves ∙ sym q.promised.leaves)
+    (crosses_same count_of p q (p.promised.answers ∙ sym q.promised.answers), p.promised.leaves ∙ sym q.promised.leaves)
 
 becktrestle_check_list_fixed : (κs : _) (a : _) (r r' : _) (s s' : _) → check_list.Post κs a r s → check_list.Post κs a r' s' → r ≡ r'
 becktrestle_check_list_fixed κs a r r' s s' p q = crosses_same _ p q (p.promised ∙ sym q.promised)
@@ -124,4 +124,4 @@ becktrestle_search_table_counted_fixed κs a r r' s s' p q = crosses_same _ p q 
 
 becktrestle_unpack_fixed : (κs : _) (a : _) (r r' : _) (s s' : _) → unpack.Post κs a r s → unpack.Post κs a r' s' → (r ≡ r') × (s.1.1.0.now ≡ s'.1.1.0.now)
 becktrestle_unpack_fixed κs a r r' s s' p q =
-    (crosses_same numbers_of p q (p.promised.answers ∙ sym q.promised.answers), p.promised.leaves ∙ sym q.promised.leaves)
+    (crosses_same count_of p q (p.promised.answers ∙ sym q.promised.answers), p.promised.leaves ∙ sym q.promised.leaves)

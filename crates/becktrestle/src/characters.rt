@@ -7,74 +7,73 @@ ghost use Rattle.printable.specs.Unicode.{unprintable};
 ghost use Rattle.results.specs.Results.{Crossed, yes_no_of};
 
 use results::YesNo;
-use results::crossing::as_yes_no;
 
 #[unsafe(no_mangle)]
 pub extern "C" fn becktrestle_is_alphabetic(n: u32) -> YesNo
     ensures { Crossed yes_no_of (answered alphabetic n) result }
 {
-    as_yes_no(properties::is_alphabetic(n))
+    properties::is_alphabetic(n).into()
 }
 
 #[unsafe(no_mangle)]
 pub extern "C" fn becktrestle_is_lowercase(n: u32) -> YesNo
     ensures { Crossed yes_no_of (answered lowercase n) result }
 {
-    as_yes_no(properties::is_lowercase(n))
+    properties::is_lowercase(n).into()
 }
 
 #[unsafe(no_mangle)]
 pub extern "C" fn becktrestle_is_uppercase(n: u32) -> YesNo
     ensures { Crossed yes_no_of (answered uppercase n) result }
 {
-    as_yes_no(properties::is_uppercase(n))
+    properties::is_uppercase(n).into()
 }
 
 #[unsafe(no_mangle)]
 pub extern "C" fn becktrestle_is_titlecase(n: u32) -> YesNo
     ensures { Crossed yes_no_of (answered titlecase n) result }
 {
-    as_yes_no(properties::is_titlecase(n))
+    properties::is_titlecase(n).into()
 }
 
 #[unsafe(no_mangle)]
 pub extern "C" fn becktrestle_is_cased(n: u32) -> YesNo
     ensures { Crossed yes_no_of (answered cased n) result }
 {
-    as_yes_no(properties::is_cased(n))
+    properties::is_cased(n).into()
 }
 
 #[unsafe(no_mangle)]
 pub extern "C" fn becktrestle_is_numeric(n: u32) -> YesNo
     ensures { Crossed yes_no_of (answered numeric n) result }
 {
-    as_yes_no(properties::is_numeric(n))
+    properties::is_numeric(n).into()
 }
 
 #[unsafe(no_mangle)]
 pub extern "C" fn becktrestle_is_alphanumeric(n: u32) -> YesNo
     ensures { Crossed yes_no_of (answered alphanumeric n) result }
 {
-    as_yes_no(properties::is_alphanumeric(n))
+    properties::is_alphanumeric(n).into()
 }
 
 #[unsafe(no_mangle)]
 pub extern "C" fn becktrestle_is_whitespace(n: u32) -> YesNo
     ensures { Crossed yes_no_of (answered whitespace n) result }
 {
-    as_yes_no(properties::is_whitespace(n))
+    properties::is_whitespace(n).into()
 }
 
 #[unsafe(no_mangle)]
 pub extern "C" fn becktrestle_is_control(n: u32) -> YesNo
     ensures { Crossed yes_no_of (answered control n) result }
 {
-    as_yes_no(properties::is_control(n))
+    properties::is_control(n).into()
 }
 
 #[unsafe(no_mangle)]
 pub extern "C" fn becktrestle_is_printable(n: u32) -> YesNo
     ensures { Crossed yes_no_of (answered (λ x. not (holds unprintable x)) n) result }
 {
-    as_yes_no(printable::is_printable(n))
+    printable::is_printable(n).into()
 }

@@ -1,4 +1,5 @@
-// The C boundary: thin wrappers and nothing else. Each answers what its entry answers, as plain numbers.
+// The C boundary: thin wrappers and nothing else. Each answers what its entry answers, as plain numbers. One for each exported name,
+// slices as they are lent: C calls no generic function and no method.
 #![tactic(auto)]
 
 mod characters;

@@ -7,25 +7,24 @@ ghost use Rattle.casing_upper.specs.Unicode as upper;
 ghost use Rattle.results.specs.Results.{Crossed, mapped_of};
 
 use results::Mapped;
-use results::crossing::as_mapped;
 
 #[unsafe(no_mangle)]
 pub extern "C" fn becktrestle_to_lowercase(n: u32) -> Mapped
     ensures { Crossed mapped_of (mapping_of lower.rows n) result }
 {
-    as_mapped(mapping::to_lowercase(n))
+    mapping::to_lowercase(n).into()
 }
 
 #[unsafe(no_mangle)]
 pub extern "C" fn becktrestle_to_uppercase(n: u32) -> Mapped
     ensures { Crossed mapped_of (mapping_of upper.rows n) result }
 {
-    as_mapped(mapping::to_uppercase(n))
+    mapping::to_uppercase(n).into()
 }
 
 #[unsafe(no_mangle)]
 pub extern "C" fn becktrestle_to_titlecase(n: u32) -> Mapped
     ensures { Crossed mapped_of (mapping_of title.rows n) result }
 {
-    as_mapped(mapping::to_titlecase(n))
+    mapping::to_titlecase(n).into()
 }

@@ -1,18 +1,17 @@
 // Scalar values and the ASCII tests.
 ghost use Rattle.std.specs.Prelude.{◌≡◌};
 ghost use Rattle.scalar.specs.Scalars.{checked, ascii_digit, ascii_upper, ascii_lower};
-ghost use Rattle.results.specs.Results.{Crossed, scalar_of};
+ghost use Rattle.results.specs.Results.{Crossed, verdict_of};
 
 use results::Verdict;
-use results::crossing::as_scalar;
 use scalar::Scalar;
 
 // Whether n is a scalar value: refuses 1, then 2.
 #[unsafe(no_mangle)]
 pub extern "C" fn becktrestle_check_scalar(n: u32) -> Verdict
-    ensures { Crossed scalar_of (checked n) result }
+    ensures { Crossed verdict_of (checked n) result }
 {
-    as_scalar(Scalar::new(n))
+    Scalar::new(n).into()
 }
 
 #[unsafe(no_mangle)]

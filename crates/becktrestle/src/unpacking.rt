@@ -1,15 +1,14 @@
 // From a skip table to a list.
 ghost use Rattle.std.specs.Prelude.{◌≡◌};
 ghost use Rattle.unpack.specs.Answers.{Unpacks};
-ghost use Rattle.results.specs.Results.{Crosses, numbers_of};
+ghost use Rattle.results.specs.Results.{Crosses, count_of};
 
 use results::Count;
-use results::crossing::as_numbers;
 
 // Unpacks a table; refuses 8, then 10, and then writes nothing.
 #[unsafe(no_mangle)]
 pub extern "C" fn becktrestle_unpack(headers: &[u32], offsets: &[u8], out: &mut [u32]) -> Count
-    ensures { Crosses numbers_of (λ u. Unpacks headers.now offsets.now out.old u out.new) result }
+    ensures { Crosses count_of (λ u. Unpacks headers.now offsets.now out.old u out.new) result }
 {
-    as_numbers(unpack::unpack(headers, offsets, out))
+    unpack::unpack(headers, offsets, out).into()
 }

@@ -7,7 +7,8 @@ use mathlib.Core.Logic.{⊎_elim}
 use native.Mathlib.Nat.{eq-or-lt_of_le, add-suc, suc-add}
 use native.Mathlib.Omega.{arith}
 use borrow.Author.Tests.{le-leb, lt-leb, eqb-true, not-true}
-use Rattle.sets.proofs.Decide.{split, and_left, and_right}
+use Rattle.std.proofs.lemmas.Bool.{and_parts}
+use Rattle.sets.proofs.Decide.{split}
 
 -- what a rising list of places says of m: p before the first, and each one that is at most m turns it over
 unfoldable pub says : Bool → List ℕ → ℕ → Bool
@@ -108,8 +109,8 @@ module _ (m : ℕ) where
             (λ (h : 64 * i + 64 ≤ m). decides k (suc i) p (omega arith) (omega arith))
             (λ (h : m < 64 * i + 64).
             before_places k (suc i) p p (omega arith)
-            ∙ not-true p (and_right (eqb (word i) 0) (not p) e)
-            ∙ sym (empty i (eqb-true (word i) 0 (and_left (eqb (word i) 0) (not p) e)) a h))
+            ∙ not-true p (and_parts (eqb (word i) 0) (not p) e).1
+            ∙ sym (empty i (eqb-true (word i) 0 (and_parts (eqb (word i) 0) (not p) e).0) a h))
             (split (64 * i + 64) m))
             (λ e. ⊎_elim
             (λ (h : 64 * i + 64 ≤ m). past 64 (64 * i) p (λ q. places f word k (suc i) q) h (λ q. decides k (suc i) q (omega arith) (omega arith)))

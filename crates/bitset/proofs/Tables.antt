@@ -3,16 +3,16 @@ use Rattle.std.specs.Prelude.{◌≡◌, ℕ, zero, suc, ◌-◌, ◌/◌, ◌%�
 use mathlib.Core.Path.{refl}
 use native.Mathlib.Omega.{arith}
 use borrow.Author.Tests.{ltb-true, lt-ltb, le-ltb}
-use Rattle.sets.proofs.Decide.{and_left, and_right}
+use Rattle.std.proofs.lemmas.Bool.{and_parts}
 use Rattle.bitset.specs.Bitsets.{Bitset, bit, mapped, word_at, bucket_word, contains, all_below}
 
 pub below_head : (k x : ℕ) (l : List ℕ) → all_below k (x ∷ l) ≡ true → x < k
 unfolding all_below
-below_head k x l h = ltb-true x k (and_left (ltb x k) (all_below k l) h)
+below_head k x l h = ltb-true x k (and_parts (ltb x k) (all_below k l) h).0
 
 pub below_tail : (k x : ℕ) (l : List ℕ) → all_below k (x ∷ l) ≡ true → all_below k l ≡ true
 unfolding all_below
-below_tail k x l h = and_right (ltb x k) (all_below k l) h
+below_tail k x l h = (and_parts (ltb x k) (all_below k l) h).1
 
 below_at : (k : ℕ) (l : List ℕ) (i : ℕ) → all_below k l ≡ true → i < length l → get_or l i 0 < k
 below_at k [] i h b = absurd (omega arith)
@@ -22,19 +22,6 @@ below_at k (x ∷ l) (suc i) h b = below_at k l i (below_tail k x l h) (omega ar
 -- what is read from a table whose entries are below k
 pub below_read : (k : ℕ) (l : List ℕ) (i : ℕ) → all_below k l ≡ true → i < length l → {x : ℕ} → x ≡ get_or l i 0 → x < k
 below_read k l i h b e = rw e (below_at k l i h b)
-
--- below the number of canonical words an index picks one of them
-pub canonical_at : (canonical real mapping : List ℕ) (i : ℕ) → i < length canonical
-    → get_or canonical i 0 ≡ word_at canonical real mapping i
-unfolding word_at
-canonical_at canonical real mapping i h = rw (lt-ltb _ _ h) refl
-
--- past the canonical words it picks a pair: what its mapping makes of its canonical word
-pub pair_at : (canonical real mapping : List ℕ) (i : ℕ) → length canonical ≤ i → {r m word : ℕ}
-    → r ≡ get_or real (i - length canonical) 0 → m ≡ get_or mapping (i - length canonical) 0 → word ≡ get_or canonical r 0
-    → mapped m word ≡ word_at canonical real mapping i
-unfolding word_at
-pair_at canonical real mapping i h r m w = rw (w, r, m, le-ltb _ _ h) refl
 
 -- inside the map the answer is the bit of the bucket's word
 pub in_map : (t : Bitset) (n : ℕ) → n / 64 / 16 < length t.map → bit (n % 64) (bucket_word t (n / 64)) ≡ contains t n

@@ -1,44 +1,63 @@
-// The bitset search over lent tables, and its steps, which the built-in tables take on their own accessors. What requires
-// that an index is inside its table is no public entry.
-ghost use Rattle.std.specs.Prelude.{◌≡◌, ◌+◌, ◌%◌, ◌<◌, ◌≤◌, true, length};
-ghost use Rattle.bitset.specs.Bitsets.{bitset, bit, rotated, inverted, turned, mapped, word_at, contains, all_below, Inside};
+// The search in a bitset's five tables, and the steps that readers of the tables take.
+ghost use Rattle.std.specs.Prelude.{◌≡◌, ◌+◌, ◌%◌, ◌<◌, length, slice_index};
+ghost use Rattle.bitset.specs.Bitsets.{Bitset, bit, inverted, turned, mapped, word_at, contains, Inside};
 ghost use Rattle.bitset.specs.Packed.{byte};
 
-fn wide(x: u8) -> usize
-    ensures { result ≡ x }
-{
-    x as usize
+// The tables of a bitset: lent slices, or functions that are compiled in.
+pub trait Tables {
+    ghost tables: { Self → Bitset };
+
+    // How many chunks the map has.
+    fn map_len(&self) -> usize
+        ensures { result ≡ length (tables self.now).map };
+
+    fn chunk_at(&self, i: usize) -> u8
+        requires { i < length (tables self.now).map }
+        ensures { result ≡ slice_index (tables self.now).map i };
+
+    fn index_at(&self, i: usize) -> u8
+        requires { i < length (tables self.now).chunks }
+        ensures { result ≡ slice_index (tables self.now).chunks i };
+
+    // The word of an index byte: a canonical word, or a pair's word after its mapping.
+    fn word_at(&self, i: usize) -> u64
+        requires { i < length (tables self.now).canonical + length (tables self.now).real }
+        ensures { result ≡ word_at (tables self.now).canonical (tables self.now).real (tables self.now).mapping i };
+
+    ghost inside: { (s : Self) → Inside (tables s) };
 }
 
-// The word rotated left by fewer than 64 places.
-fn rotate_left(word: u64, by: u32) -> u64
-    requires { by < 64 }
-    ensures { result ≡ rotated word by }
+// Whether the bit of n is set.
+pub fn contains<T: Tables>(tables: &T, n: u32) -> bool
+    ensures { result ≡ contains (T.tables tables.now) n }
 {
-    // A shift by 64 is not defined.
-    if by == 0 {
-        return word;
+    let bucket = (n / 64) as usize;
+    let chunk = bucket / 16;
+    if chunk >= tables.map_len() {
+        return false;
     }
-    (word << by) | (word >> (64 - by))
+    let at = usize::from(tables.chunk_at(chunk)) * 16 + bucket % 16;
+    let index = usize::from(tables.index_at(at));
+    has_bit(tables.word_at(index), n)
 }
 
+// The mapping and the word stay two numbers in what follows: a struct of them would be no plainer.
 fn invert(mapping: u8, word: u64) -> u64
     ensures { result ≡ inverted mapping word }
 {
-    if mapping / 64 % 2 == 1 {
-        return !word;
-    }
-    word
+    if mapping / 64 % 2 == 1 { !word } else { word }
 }
 
+#[tactic(auto, using(crate::proofs::Rotate::as_std))]
 fn turn(mapping: u8, word: u64) -> u64
     ensures { result ≡ turned mapping word }
 {
-    let quantity = (mapping % 64) as u32;
+    let quantity = u32::from(mapping % 64);
     if mapping / 128 % 2 == 1 {
-        return word >> quantity;
+        word >> quantity
+    } else {
+        word.rotate_left(quantity)
     }
-    rotate_left(word, quantity)
 }
 
 // What a pair makes of its canonical word. The inversion comes first: what a shift brings in stays zero.
@@ -56,43 +75,8 @@ pub fn has_bit(word: u64, n: u32) -> bool
 }
 
 // The byte of a table at an index, from the word that holds it among eight.
-pub fn byte_at(word: u64, index: usize) -> usize
+pub fn byte_at(word: u64, index: usize) -> u8
     ensures { result ≡ byte (index % 8) word }
 {
-    ((word >> (8 * (index % 8))) % 256) as usize
-}
-
-// The word of an index byte: a canonical word, or a pair's word after its mapping.
-fn word_at(canonical: &[u64], real: &[u8], mapping: &[u8], index: usize) -> u64
-    requires { (index < length canonical.now + length real.now) × (all_below (length canonical.now) real.now ≡ true) × (length real.now ≤ length mapping.now) }
-    ensures { result ≡ word_at canonical.now real.now mapping.now index }
-{
-    if index < canonical.len() {
-        return canonical[index];
-    }
-    let pair = index - canonical.len();
-    let word = canonical[wide(real[pair])];
-    mapped(mapping[pair], word)
-}
-
-// Whether the bit of n is set.
-pub fn bitset_search(
-    n: u32,
-    map: &[u8],
-    chunks: &[u8],
-    canonical: &[u64],
-    real: &[u8],
-    mapping: &[u8],
-) -> bool
-    requires { Inside (bitset map.now chunks.now canonical.now real.now mapping.now) }
-    ensures { result ≡ contains (bitset map.now chunks.now canonical.now real.now mapping.now) n }
-{
-    let bucket = (n / 64) as usize;
-    let chunk = bucket / 16;
-    if chunk >= map.len() {
-        return false;
-    }
-    let at = wide(map[chunk]) * 16 + bucket % 16;
-    let word = word_at(canonical, real, mapping, wide(chunks[at]));
-    has_bit(word, n)
+    ((word >> (8 * (index % 8))) % 256) as u8
 }

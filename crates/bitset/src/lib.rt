@@ -1,4 +1,7 @@
-// Bitsets: the reader of document 000's bitset tables, over slices, and the steps that every reader shares.
+// Bitsets: the search in document 000's bitset tables, wherever they lie, and the steps that every reader shares.
 #![tactic(auto)]
 
 pub mod kernel;
+mod lent;
+
+pub use lent::Lent;

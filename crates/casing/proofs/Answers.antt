@@ -1,4 +1,5 @@
 -- The code's count of an answer's numbers is the definition's. Assumes nothing.
+-- A lemma that no proof cites any more stands because docs/PORT.md names it.
 use Rattle.std.proofs.Common.{◌≡◌, ℕ, Bool, true, false, cond, eqb, refl, eqb-true}
 use borrow.Author.Tests.{eqb-false}
 use Rattle.casing.specs.Answers.{used, Used}

@@ -3,7 +3,8 @@
 -- first list: a lookup in it is one in the first, and where that has none in the second. Assumes nothing.
 use Rattle.std.proofs.Common.{◌≡◌, ℕ, zero, suc, ◌+◌, ◌-◌, ◌%◌, ◌<◌, ◌≤◌, Bool, true, false, cond, not, ◌&&◌, ◌||◌, eqb, ltb, leb, ◌⊎◌, List, [], ◌∷◌, ◌++◌, sym, refl, ap, ◌∙◌, inl, inr, ⊎_elim, arith, ltb-true, eq-eqb, ne_eqb, eqb-true, le-leb, leb-true}
 use borrow.Author.Tests.{lt-leb}
-use Rattle.sets.proofs.Decide.{split, same, and_left, and_right}
+use Rattle.std.proofs.lemmas.Bool.{and_parts, cases_eq}
+use Rattle.sets.proofs.Decide.{split}
 use Rattle.casing.specs.declared.Mapping.{Mapping}
 use Rattle.casing.specs.Rows.{Row, first_row, covers}
 
@@ -88,8 +89,8 @@ module _ (x : ℕ) (says : Row → Mapping) where
   unfolding rising
   find_below low [] o r l = find_nil o
   find_below low (q ∷ qs) o r l =
-      let a = leb-true low q.0 (and_left (leb low q.0) _ r) in
-      find_on q qs o (λ e. omega arith) ∙ find_below (suc q.0) qs o (and_right (leb low q.0) _ r) (omega arith)
+      let a = leb-true low q.0 (and_parts (leb low q.0) _ r).0 in
+      find_on q qs o (λ e. omega arith) ∙ find_below (suc q.0) qs o (and_parts (leb low q.0) _ r).1 (omega arith)
 
   -- merge: the first list, and where it has no row the second
   pub find_merge : (k : ℕ) (low : ℕ) (ps qs : List Row) (o : Mapping) → rising low ps ≡ true → find (merge k ps qs) o ≡ find ps (find qs o)
@@ -98,7 +99,7 @@ module _ (x : ℕ) (says : Row → Mapping) where
   find_merge (suc k) low [] qs o r = sym (find_nil (find qs o))
   find_merge (suc k) low (p ∷ ps) [] o r = rw (find_nil o) refl
   find_merge (suc k) low (p ∷ ps) (q ∷ qs) o r =
-      let r' = and_right (leb low p.0) (rising (suc p.0) ps) r in
+      let r' = (and_parts (leb low p.0) (rising (suc p.0) ps) r).1 in
       by_order (ltb q.0 p.0) (eqb q.0 p.0) refl refl
       (find_merge k low (p ∷ ps) qs o r) (find_merge k (suc p.0) ps qs o r') (find_merge k (suc p.0) ps (q ∷ qs) o r')
     where
@@ -109,23 +110,23 @@ module _ (x : ℕ) (says : Row → Mapping) where
           → find (cond s (q ∷ merge k (p ∷ ps) qs) (cond t (p ∷ merge k ps qs) (p ∷ merge k ps (q ∷ qs)))) o ≡ find (p ∷ ps) (find (q ∷ qs) o)
       by_order true t a b f g h =
           let l = ltb-true q.0 p.0 a in
-          let up : rising p.0 (p ∷ ps) ≡ true = rw (le-leb p.0 p.0 (omega arith)) (and_right (leb low p.0) (rising (suc p.0) ps) r) in
+          let up : rising p.0 (p ∷ ps) ≡ true = rw (le-leb p.0 p.0 (omega arith)) (and_parts (leb low p.0) (rising (suc p.0) ps) r).1 in
           ⊎_elim
           (λ (e : q.0 ≡ x). find_hit q (merge k (p ∷ ps) qs) o e ∙ sym (find_below p.0 (p ∷ ps) (find (q ∷ qs) o) up (omega arith) ∙ find_hit q qs o e))
           (λ ne. find_on q (merge k (p ∷ ps) qs) o ne ∙ f ∙ rw (find_on q qs o ne) refl)
-          (same q.0 x)
+          (cases_eq q.0 x)
       by_order false true a b f g h =
           ⊎_elim
           (λ (e : p.0 ≡ x). find_hit p (merge k ps qs) o e ∙ sym (find_hit p ps (find (q ∷ qs) o) e))
           (λ ne.
           let m : q.0 ≡ x → ⊥ = λ e. ne (sym (eqb-true q.0 p.0 b) ∙ e) in
           find_on p (merge k ps qs) o ne ∙ g ∙ sym (find_on p ps (find (q ∷ qs) o) ne ∙ rw (find_on q qs o m) refl))
-          (same p.0 x)
+          (cases_eq p.0 x)
       by_order false false a b f g h =
           ⊎_elim
           (λ (e : p.0 ≡ x). find_hit p (merge k ps (q ∷ qs)) o e ∙ sym (find_hit p ps (find (q ∷ qs) o) e))
           (λ ne. find_on p (merge k ps (q ∷ qs)) o ne ∙ h ∙ sym (find_on p ps (find (q ∷ qs) o) ne))
-          (same p.0 x)
+          (cases_eq p.0 x)
 
   module _ (b : ℕ) where
     -- one number of a scan
@@ -158,7 +159,7 @@ module _ (x : ℕ) (says : Row → Mapping) where
         rw (scan_step s p d k n rest)
         (⊎_elim (λ (i : n ≡ m). rw (sym i) (here (meets s p n) (omega arith)))
         (λ ne. further (meets s p n) (omega arith) (scan_in s p d k (suc n) m rest o e (omega arith) (omega arith)))
-        (same n m))
+        (cases_eq n m))
       where
         tail : List Row
         tail = scan b s p d k (suc n) rest
@@ -219,7 +220,7 @@ module _ (x : ℕ) (says : Row → Mapping) where
         (⊎_elim
         (λ (i : q.0 ≡ m). rw (eq-eqb q.0 m i) (find_hit _ (expand_multis b qs) o (omega arith)))
         (λ ne. rw (ne_eqb q.0 m ne) (find_on _ (expand_multis b qs) o (λ i. ne (omega arith)) ∙ find_multis qs m o e))
-        (same q.0 m))
+        (cases_eq q.0 m))
 
     -- rows that lie elsewhere hold no number
     pub singles_out : (lo hi : ℕ) (qs : List Row) (o : Mapping) → spans lo hi qs ≡ true → (x < b + lo) ⊎ (b + hi < x)
@@ -227,23 +228,23 @@ module _ (x : ℕ) (says : Row → Mapping) where
     unfolding expand_singles spans
     singles_out lo hi [] o t h = find_nil o
     singles_out lo hi (q ∷ qs) o t h =
-        let t1 = and_right (leb lo q.0) (leb q.0 hi && (leb q.1 hi && spans lo hi qs)) t in
-        let t2 = and_right (leb q.0 hi) (leb q.1 hi && spans lo hi qs) t1 in
-        let l = leb-true lo q.0 (and_left (leb lo q.0) (leb q.0 hi && (leb q.1 hi && spans lo hi qs)) t) in
-        let u = leb-true q.0 hi (and_left (leb q.0 hi) (leb q.1 hi && spans lo hi qs) t1) in
-        let v = leb-true q.1 hi (and_left (leb q.1 hi) (spans lo hi qs) t2) in
+        let t1 = (and_parts (leb lo q.0) (leb q.0 hi && (leb q.1 hi && spans lo hi qs)) t).1 in
+        let t2 = (and_parts (leb q.0 hi) (leb q.1 hi && spans lo hi qs) t1).1 in
+        let l = leb-true lo q.0 (and_parts (leb lo q.0) (leb q.0 hi && (leb q.1 hi && spans lo hi qs)) t).0 in
+        let u = leb-true q.0 hi (and_parts (leb q.0 hi) (leb q.1 hi && spans lo hi qs) t1).0 in
+        let v = leb-true q.1 hi (and_parts (leb q.1 hi) (spans lo hi qs) t2).0 in
         scan_out q.0 q.2 q.3 (suc q.1 - q.0) q.0 (expand_singles b qs) o
         (⊎_elim (λ k. inl (omega arith)) (λ k. inr (omega arith)) h)
-        ∙ singles_out lo hi qs o (and_right (leb q.1 hi) (spans lo hi qs) t2) h
+        ∙ singles_out lo hi qs o (and_parts (leb q.1 hi) (spans lo hi qs) t2).1 h
 
     pub multis_out : (lo hi : ℕ) (qs : List Row) (o : Mapping) → lies lo hi qs ≡ true → (x < b + lo) ⊎ (b + hi < x)
         → find (expand_multis b qs) o ≡ o
     unfolding lies
     multis_out lo hi [] o t h = no_multis o
     multis_out lo hi (q ∷ qs) o t h =
-        let t1 = and_right (leb lo q.0) (leb q.0 hi && lies lo hi qs) t in
-        let l = leb-true lo q.0 (and_left (leb lo q.0) (leb q.0 hi && lies lo hi qs) t) in
-        let u = leb-true q.0 hi (and_left (leb q.0 hi) (lies lo hi qs) t1) in
+        let t1 = (and_parts (leb lo q.0) (leb q.0 hi && lies lo hi qs) t).1 in
+        let l = leb-true lo q.0 (and_parts (leb lo q.0) (leb q.0 hi && lies lo hi qs) t).0 in
+        let u = leb-true q.0 hi (and_parts (leb q.0 hi) (lies lo hi qs) t1).0 in
         rw (multis_step q qs)
         (find_on _ (expand_multis b qs) o (λ e. ⊎_elim (λ k. omega arith) (λ k. omega arith) h)
-        ∙ multis_out lo hi qs o (and_right (leb q.0 hi) (lies lo hi qs) t1) h)
+        ∙ multis_out lo hi qs o (and_parts (leb q.0 hi) (lies lo hi qs) t1).1 h)

@@ -1,5 +1,6 @@
 -- Halving among ends that rise: every row from first to before lo ends below x, and the row at hi does not. A turn moves one of
 -- them to the middle, and where they meet is the row sought. Assumes nothing.
+-- A lemma that no proof cites any more stands because docs/PORT.md names it.
 use Rattle.std.proofs.Common.{◌≡◌, ℕ, ◌+◌, ◌<◌, ◌≤◌, true, List, length, get_or, ⊎_elim, eq-or-lt_of_le, arith}
 use Rattle.casing.specs.Rows.{apart}
 use Rattle.casing.specs.Reading.{Halved}

@@ -1,8 +1,9 @@
 -- What stands under the rows: ASCII letters as one row of 26, written out, give what the ASCII functions give; and the four ways
 -- through a mapping's code are the four cases of its definition. Assumes nothing.
+-- A lemma that no proof cites any more stands because docs/PORT.md names it.
 use Rattle.std.proofs.Common.{◌≡◌, ℕ, ◌+◌, ◌-◌, ◌/◌, ◌%◌, ◌<◌, ◌≤◌, Bool, true, false, cond, ◌&&◌, leb, List, [], ◌∷◌, sym, refl, ◌∙◌, ⊎_elim, arith, le-ltb, lt-ltb, eq-eqb, ne_eqb, leb-true}
 use Rattle.scalar.specs.Scalars.{between}
-use Rattle.sets.proofs.Decide.{same, and_left, and_right}
+use Rattle.std.proofs.lemmas.Bool.{and_parts, cases_eq}
 use Rattle.casing.specs.declared.Mapping.{Mapping}
 use Rattle.casing.specs.Answers.{made, ascii_lowered, ascii_uppered}
 use Rattle.casing.specs.Rows.{Rows, Row, first_row, looked, in_rows, from_floor}
@@ -27,14 +28,14 @@ module _ (n : ℕ) where
   pub lower_letters : find n made_row (letters 0x41 0x5A 0x20) (made n 0 0) ≡ made (ascii_lowered n) 0 0
   lower_letters =
       letters_map 0x41 0x5A 0x20 n (n + 0x20)
-      (λ b. let h = leb-true n 0x5A (and_right (leb 0x41 n) (leb n 0x5A) b) in omega arith)
+      (λ b. let h = leb-true n 0x5A (and_parts (leb 0x41 n) (leb n 0x5A) b).1 in omega arith)
 
   pub upper_letters : find n made_row (letters 0x61 0x7A 0xFFE0) (made n 0 0) ≡ made (ascii_uppered n) 0 0
   upper_letters =
       letters_map 0x61 0x7A 0xFFE0 n (n - 0x20)
       (λ b.
-      let l = leb-true 0x61 n (and_left (leb 0x61 n) (leb n 0x7A) b) in
-      let h = leb-true n 0x7A (and_right (leb 0x61 n) (leb n 0x7A) b) in
+      let l = leb-true 0x61 n (and_parts (leb 0x61 n) (leb n 0x7A) b).0 in
+      let h = leb-true n 0x7A (and_parts (leb 0x61 n) (leb n 0x7A) b).1 in
       omega arith)
 
 module _ (floor : ℕ) (rows0 rows1 : Rows) (n : ℕ) (other : Mapping) where
@@ -56,4 +57,4 @@ module _ (floor : ℕ) (rows0 rows1 : Rows) (n : ℕ) (other : Mapping) where
   -- where plane 1 has no rows
   pub past_plane0 : floor ≤ n → (n / 65536 ≡ 0 → ⊥) → looked rows1 1 (n % 65536) other ≡ other → other ≡ from_floor floor rows0 rows1 n other
   past_plane0 l p e =
-      ⊎_elim (λ (q : n / 65536 ≡ 1). sym e ∙ in_plane1 l q) (λ q. past_planes l p q) (same (n / 65536) 1)
+      ⊎_elim (λ (q : n / 65536 ≡ 1). sym e ∙ in_plane1 l q) (λ q. past_planes l p q) (cases_eq (n / 65536) 1)

@@ -1,13 +1,11 @@
 -- Reading by pages gives what the rows say. A row that holds a number is one of the rows of the number's page, by one test over
 -- the table; so the row that halving finds there is the only one that can hold it, and an empty page has none. Assumes nothing.
+-- A lemma that no proof cites any more stands because docs/PORT.md names it.
 use Rattle.std.proofs.Common.{◌≡◌, ℕ, zero, suc, ◌+◌, ◌*◌, ◌/◌, ◌%◌, ◌<◌, ◌≤◌, Bool, true, false, cond, ◌&&◌, eqb, ltb, leb, List, [], ◌∷◌, length, get_or, sym, refl, ap, ◌∙◌, ⊎_elim, arith, ltb-true, leb-true}
+use Rattle.std.specs.Prelude.{Option, Some, None}
 use Rattle.scalar.specs.Scalars.{between}
-use Rattle.sets.proofs.Decide.{same, not_both, and_left, and_right}
+use Rattle.std.proofs.lemmas.Bool.{and_parts, both_ways, cases_eq}
 use Rattle.casing.specs.declared.Mapping.{Mapping}
-use Rattle.casing.specs.declared.kernel.Found.{Found}
-use Rattle.casing.specs.declared.kernel.Found.TheVariants.{To, Nothing}
-use Rattle.casing.specs.declared.kernel.Page.{Page}
-use Rattle.casing.specs.declared.kernel.Page.TheVariants as page
 use Rattle.casing.specs.Rows.{Rows, Row, zip, first_row, covers, moved, single, multiple, singles, multis, looked, apart, tidy_singles, tidy_multis}
 use Rattle.casing.specs.Reading.{or_else, Says, row_says, word_of, unpacked, packed, page_of, Halved, among, in_use, singles_paged, multis_paged, pages_fit, rows_fit, readable}
 use Rattle.casing.proofs.Sorted.{Only, only, no_last}
@@ -33,19 +31,19 @@ tested rows pages t0 =
     let e = multis_paged pages rows.multi in
     let f = pages_fit (length rows.ends) pages in
     let g = rows_fit (singles rows) in
-    let t1 = and_right a (b && (c && (d && (e && (f && g))))) t0 in
-    let t2 = and_right b (c && (d && (e && (f && g)))) t1 in
-    let t3 = and_right c (d && (e && (f && g))) t2 in
-    let t4 = and_right d (e && (f && g)) t3 in
-    let t5 = and_right e (f && g) t4 in
+    let t1 = (and_parts a (b && (c && (d && (e && (f && g))))) t0).1 in
+    let t2 = (and_parts b (c && (d && (e && (f && g)))) t1).1 in
+    let t3 = (and_parts c (d && (e && (f && g))) t2).1 in
+    let t4 = (and_parts d (e && (f && g)) t3).1 in
+    let t5 = (and_parts e (f && g) t4).1 in
     record {
-      tidy = and_left a _ t0;
-      tidy_multis_lem = and_left b _ t1;
-      rise = and_left c _ t2;
-      paged = and_left d _ t3;
-      multis_paged_lem = and_left e _ t4;
-      inside = and_left f g t5;
-      fit = and_right f g t5;
+      tidy = (and_parts a _ t0).0;
+      tidy_multis_lem = (and_parts b _ t1).0;
+      rise = (and_parts c _ t2).0;
+      paged = (and_parts d _ t3).0;
+      multis_paged_lem = (and_parts e _ t4).0;
+      inside = (and_parts f g t5).0;
+      fit = (and_parts f g t5).1;
     }
 
 -- a row that holds x is among the rows of x's page
@@ -56,7 +54,7 @@ module _ (pages : List ℕ) (x : ℕ) where
       ⊎_elim
       (λ (u : x / 256 ≡ s / 256). rw u p)
       (λ ne. let u : x / 256 ≡ e / 256 = omega arith in rw u q)
-      (same (x / 256) (s / 256))
+      (cases_eq (x / 256) (s / 256))
 
   paged_on : (i s e : ℕ) (ss es : List ℕ) → singles_paged pages i (s ∷ ss) (e ∷ es) ≡ true
       → (s ≤ x → x ≤ e → among (page_of pages (x / 256)) i ≡ true) × (singles_paged pages (suc i) ss es ≡ true)
@@ -66,9 +64,9 @@ module _ (pages : List ℕ) (x : ℕ) where
       let b = among (page_of pages (e / 256)) i in
       let c = leb (e / 256) (suc (s / 256)) in
       let d = singles_paged pages (suc i) ss es in
-      let t1 = and_right a (b && (c && d)) t in
-      let t2 = and_right b (c && d) t1 in
-      (first_paged i s e (and_left a (b && (c && d)) t) (and_left b (c && d) t1) (leb-true _ _ (and_left c d t2)), and_right c d t2)
+      let t1 = (and_parts a (b && (c && d)) t).1 in
+      let t2 = (and_parts b (c && d) t1).1 in
+      (first_paged i s e (and_parts a (b && (c && d)) t).0 (and_parts b (c && d) t1).0 (leb-true _ _ (and_parts c d t2).0), (and_parts c d t2).1)
 
   pub single_paged : (i : ℕ) (ss es : List ℕ) → singles_paged pages i ss es ≡ true → length es ≡ length ss → (j : ℕ) → j < length ss
       → between (get_or ss j 0) (get_or es j 0) x ≡ true → among (page_of pages (x / 256)) (i + j) ≡ true
@@ -76,7 +74,7 @@ module _ (pages : List ℕ) (x : ℕ) where
   single_paged i (s ∷ ss) [] t n j l h = absurd (omega arith)
   single_paged i (s ∷ ss) (e ∷ es) t n zero l h =
       let z : i + 0 ≡ i = omega arith in
-      rw z ((paged_on i s e ss es t).0 (leb-true s x (and_left (leb s x) (leb x e) h)) (leb-true x e (and_right (leb s x) (leb x e) h)))
+      rw z ((paged_on i s e ss es t).0 (leb-true s x (and_parts (leb s x) (leb x e) h).0) (leb-true x e (and_parts (leb s x) (leb x e) h).1))
   single_paged i (s ∷ ss) (e ∷ es) t n (suc j) l h =
       let z : i + suc j ≡ suc i + j = omega arith in
       rw z (single_paged (suc i) ss es (paged_on i s e ss es t).1 (omega arith) j (omega arith) h)
@@ -84,22 +82,22 @@ module _ (pages : List ℕ) (x : ℕ) where
   pub multi_paged : (ms : List ℕ) → multis_paged pages ms ≡ true → (j : ℕ) → j < length ms → get_or ms j 0 ≡ x → in_use (page_of pages (x / 256)) ≡ true
   unfolding multis_paged
   multi_paged [] t j l e = absurd (omega arith)
-  multi_paged (m ∷ ms) t zero l e = rw (sym e) (and_left (in_use (page_of pages (m / 256))) (multis_paged pages ms) t)
+  multi_paged (m ∷ ms) t zero l e = rw (sym e) (and_parts (in_use (page_of pages (m / 256))) (multis_paged pages ms) t).0
   multi_paged (m ∷ ms) t (suc j) l e =
-      multi_paged ms (and_right (in_use (page_of pages (m / 256))) (multis_paged pages ms) t) j (omega arith) e
+      multi_paged ms (and_parts (in_use (page_of pages (m / 256))) (multis_paged pages ms) t).1 j (omega arith) e
 
 -- a page's rows are rows of the table
-pub page_fits : (n p a b : ℕ) (pages : List ℕ) → pages_fit n pages ≡ true → page.Rows a b ≡ page_of pages p → (a ≤ b) × (b ≤ n)
+pub page_fits : (n p a b : ℕ) (pages : List ℕ) → pages_fit n pages ≡ true → Some (a, b) ≡ page_of pages p → (a ≤ b) × (b ≤ n)
 unfolding page_of pages_fit
 page_fits n p a b [] t e = let z : ◌≡◌ {A = ℕ} 0 1 = cc in absurd (omega arith)
 page_fits n p a b (q ∷ []) t e = let z : ◌≡◌ {A = ℕ} 0 1 = cc in absurd (omega arith)
 page_fits n p a b (q ∷ (c ∷ [])) t e = let z : ◌≡◌ {A = ℕ} 0 1 = cc in absurd (omega arith)
 page_fits n p a b (q ∷ (c ∷ (d ∷ l))) t e =
-    let u = and_right (leb c d) (leb d n && pages_fit n l) t in
-    by_test (eqb q p) e (leb-true c d (and_left (leb c d) _ t)) (leb-true d n (and_left (leb d n) (pages_fit n l) u)) (page_fits n p a b l (and_right (leb d n) (pages_fit n l) u))
+    let u = (and_parts (leb c d) (leb d n && pages_fit n l) t).1 in
+    by_test (eqb q p) e (leb-true c d (and_parts (leb c d) _ t).0) (leb-true d n (and_parts (leb d n) (pages_fit n l) u).0) (page_fits n p a b l (and_parts (leb d n) (pages_fit n l) u).1)
   where
-    by_test : (s : Bool) → page.Rows a b ≡ cond s (page.Rows c d) (page_of l p) → c ≤ d → d ≤ n → (page.Rows a b ≡ page_of l p → (a ≤ b) × (b ≤ n)) → (a ≤ b) × (b ≤ n)
-    by_test true e f g on = let v : a ≡ c = cc in let w : b ≡ d = cc in (omega arith, omega arith)
+    by_test : (s : Bool) → Some (a, b) ≡ cond s (Some (c, d)) (page_of l p) → c ≤ d → d ≤ n → (Some (a, b) ≡ page_of l p → (a ≤ b) × (b ≤ n)) → (a ≤ b) × (b ≤ n)
+    by_test true e f g on = let both : ◌≡◌ {A = ℕ × ℕ} (a, b) (c, d) = cc in let v : a ≡ c = ap (λ (q : ℕ × ℕ). q.0) both in let w : b ≡ d = ap (λ (q : ℕ × ℕ). q.1) both in (omega arith, omega arith)
     by_test false e f g on = on e
 
 -- a row comes out of its word as it went in
@@ -122,23 +120,23 @@ fit_on q qs t =
     let c = ltb q.2 65536 in
     let d = ltb q.3 65536 in
     let e = rows_fit qs in
-    let t1 = and_right a (b && (c && (d && e))) t in
-    let t2 = and_right b (c && (d && e)) t1 in
-    let t3 = and_right c (d && e) t2 in (
-      word_holds q.0 q.1 q.2 q.3 (ltb-true _ _ (and_left a (b && (c && (d && e))) t)) (ltb-true _ _ (and_left b (c && (d && e)) t1))
-          (ltb-true _ _ (and_left c (d && e) t2)) (ltb-true _ _ (and_left d e t3)),
-      and_right d e t3,
+    let t1 = (and_parts a (b && (c && (d && e))) t).1 in
+    let t2 = (and_parts b (c && (d && e)) t1).1 in
+    let t3 = (and_parts c (d && e) t2).1 in (
+      word_holds q.0 q.1 q.2 q.3 (ltb-true _ _ (and_parts a (b && (c && (d && e))) t).0) (ltb-true _ _ (and_parts b (c && (d && e)) t1).0)
+          (ltb-true _ _ (and_parts c (d && e) t2).0) (ltb-true _ _ (and_parts d e t3).0),
+      (and_parts d e t3).1,
     )
 
 -- what a row says, by the fields of its word
 module _ (word start end step plane x : ℕ) (a : start ≡ word % 65536) (b : end ≡ word / 65536 % 65536) (c : step ≡ word / 65536 / 65536 % 65536) where
   pub word_moves : (delta to : ℕ) → delta ≡ word / 65536 / 65536 / 65536 % 65536 → covers start end step x ≡ true → to ≡ moved plane x delta
-      → To to 0 0 ≡ row_says (unpacked word) plane x
+      → Some (to, 0, 0) ≡ row_says (unpacked word) plane x
   word_moves delta to d h e =
       let g : covers (word % 65536) (word / 65536 % 65536) (word / 65536 / 65536 % 65536) x ≡ true = rw (a, b, c) at h in
       rw (e, d, g) refl
 
-  pub word_leaves : covers start end step x ≡ false → Nothing ≡ row_says (unpacked word) plane x
+  pub word_leaves : covers start end step x ≡ false → None ≡ row_says (unpacked word) plane x
   word_leaves h =
       let g : covers (word % 65536) (word / 65536 % 65536) (word / 65536 / 65536 % 65536) x ≡ false = rw (a, b, c) at h in
       rw g refl
@@ -154,7 +152,7 @@ module _ (rows : Rows) (pages : List ℕ) (test : readable rows pages ≡ true) 
   parts = tested rows pages test
 
   -- what halving a page's rows requires
-  pub page_rows : (p a b : ℕ) → page.Rows a b ≡ page_of pages p → (apart 0 rows.ends rows.ends ≡ true) × ((a ≤ b) × (b ≤ length rows.ends))
+  pub page_rows : (p a b : ℕ) → Some (a, b) ≡ page_of pages p → (apart 0 rows.ends rows.ends ≡ true) × ((a ≤ b) × (b ≤ length rows.ends))
   page_rows p a b e = (parts.rise, page_fits (length rows.ends) p a b pages parts.inside e)
 
   module _ (plane x : ℕ) where
@@ -166,7 +164,7 @@ module _ (rows : Rows) (pages : List ℕ) (test : readable rows pages ≡ true) 
         (singles_parts _ _ _ _ parts.tidy).1.second j k h)
 
     -- an empty page has no rows
-    pub empty_page : page.Empty ≡ page_of pages (x / 256) → (other : Mapping) → other ≡ looked rows plane x other
+    pub empty_page : None ≡ page_of pages (x / 256) → (other : Mapping) → other ≡ looked rows plane x other
     empty_page e other =
         sym (
         single_missed rows.starts rows.ends rows.steps rows.deltas plane x (multiple (multis rows) plane x other) parts.tidy (length rows.starts)
@@ -177,25 +175,25 @@ module _ (rows : Rows) (pages : List ℕ) (test : readable rows pages ≡ true) 
         (λ l. absurd (omega arith)))
       where
         unheld : (j : ℕ) → j < length rows.starts → (t : Bool) → between (get_or rows.starts j 0) (get_or rows.ends j 0) x ≡ t → t ≡ false
-        unheld j k true h = not_both (held j k h) (ap (λ (p : Page). among p j) (sym e))
+        unheld j k true h = absurd (both_ways _ (ap (λ (p : Option (ℕ × ℕ)). among p j) (sym e)) (held j k h))
         unheld j k false h = refl
 
         unlisted : (j : ℕ) → j < length rows.multi → (t : Bool) → between (get_or rows.multi j 0) (get_or rows.multi j 0) x ≡ t → t ≡ false
         unlisted j k true h =
             let m = get_or rows.multi j 0 in
-            let l = leb-true m x (and_left (leb m x) (leb x m) h) in
-            let u = leb-true x m (and_right (leb m x) (leb x m) h) in
-            not_both (multi_paged pages x rows.multi parts.multis_paged_lem j k (omega arith)) (ap in_use (sym e))
+            let l = leb-true m x (and_parts (leb m x) (leb x m) h).0 in
+            let u = leb-true x m (and_parts (leb m x) (leb x m) h).1 in
+            absurd (both_ways _ (ap in_use (sym e)) (multi_paged pages x rows.multi parts.multis_paged_lem j k (omega arith)))
         unlisted j k false h = refl
 
-    module _ (a b r : ℕ) (e : page.Rows a b ≡ page_of pages (x / 256)) (h : Halved rows.ends a b x r) (z : Mapping) where
+    module _ (a b r : ℕ) (e : Some (a, b) ≡ page_of pages (x / 256)) (h : Halved rows.ends a b x r) (z : Mapping) where
       spanned : b ≤ length rows.starts
       spanned = omega (arith, (page_fits (length rows.ends) (x / 256) a b pages parts.inside e).1, (singles_parts _ _ _ _ parts.tidy).1.second)
 
       in_span : (j : ℕ) → j < length rows.starts → between (get_or rows.starts j 0) (get_or rows.ends j 0) x ≡ true → (a ≤ j) × (j < b)
       in_span j k g =
-          let w = ap (λ (p : Page). among p j) e ∙ held j k g in
-          (leb-true a j (and_left (leb a j) (ltb j b) w), ltb-true j b (and_right (leb a j) (ltb j b) w))
+          let w = ap (λ (p : Option (ℕ × ℕ)). among p j) e ∙ held j k g in
+          (leb-true a j (and_parts (leb a j) (ltb j b) w).0, ltb-true j b (and_parts (leb a j) (ltb j b) w).1)
 
       one : Only rows.starts rows.ends x r
       one = only rows.starts rows.ends x (singles_parts _ _ _ _ parts.tidy).0 a b spanned in_span r h
@@ -224,10 +222,10 @@ module _ (rows : Rows) (pages : List ℕ) (test : readable rows pages ≡ true) 
           by_test false c k =
               rw c (sym (single_missed rows.starts rows.ends rows.steps rows.deltas plane x z parts.tidy r one (λ l. c)))
 
-      pub row_found : (r ≡ b → ⊥) → (found : Found) (word : ℕ) → found ≡ row_says (unpacked word) plane x → word ≡ get_or (packed (singles rows)) r 0
+      pub row_found : (r ≡ b → ⊥) → (found : Option (ℕ × ℕ × ℕ)) (word : ℕ) → found ≡ row_says (unpacked word) plane x → word ≡ get_or (packed (singles rows)) r 0
           → or_else found z ≡ single (singles rows) plane x z
       row_found ne found word f w =
-          ap (λ (g : Found). or_else g z) (f ∙ ap (λ (n : ℕ). row_says (unpacked n) plane x) w) ∙ row_says_lem ne
+          ap (λ (g : Option (ℕ × ℕ × ℕ)). or_else g z) (f ∙ ap (λ (n : ℕ). row_says (unpacked n) plane x) w) ∙ row_says_lem ne
 
 -- a plane without multi rows
 pub no_multis : (rows : Rows) (plane x : ℕ) (other : Mapping) → rows.multi ≡ [] → multiple (multis rows) plane x other ≡ other
@@ -235,5 +233,5 @@ unfolding multiple first_row zip
 no_multis rows plane x other e = rw e refl
 
 -- what was found, under another name
-pub said : (found same_found : Found) (rows : Mapping → Mapping) → same_found ≡ found → Says found rows → (other : Mapping) → or_else same_found other ≡ rows other
-said found same_found rows e says other = ap (λ (f : Found). or_else f other) e ∙ says other
+pub said : (found same_found : Option (ℕ × ℕ × ℕ)) (rows : Mapping → Mapping) → same_found ≡ found → Says found rows → (other : Mapping) → or_else same_found other ≡ rows other
+said found same_found rows e says other = ap (λ (f : Option (ℕ × ℕ × ℕ)). or_else f other) e ∙ says other

@@ -2,7 +2,7 @@
 -- none does. Assumes nothing.
 use Rattle.std.proofs.Common.{◌≡◌, ℕ, zero, suc, ◌<◌, Bool, true, false, ◌&&◌, eqb, List, [], ◌∷◌, length, get_or, refl, ap, ◌∙◌, ⊎_elim, arith, ne_eqb, eqb-true, le-leb}
 use Rattle.scalar.specs.Scalars.{between}
-use Rattle.sets.proofs.Decide.{same, and_left, and_right, and_not_left}
+use Rattle.std.proofs.lemmas.Bool.{and_left, and_parts, cases_eq}
 use Rattle.casing.specs.declared.Mapping.{Mapping}
 use Rattle.casing.specs.Answers.{made}
 use Rattle.casing.specs.Rows.{Row, zip, first_row, covers, moved, in_plane, in_plane_or0, single, multiple, apart, tidy_singles, tidy_multis}
@@ -67,7 +67,7 @@ module _ (ks ls ms os : List ℕ) (e : Even ks ls ms os) (fits : Row → Bool) (
   missed not-it =
       let n = zip_length ks ls ms os e in
       no_row fits says other (zip ks ls ms os)
-      (λ j k. let h : j < length ks = omega arith in ap fits (zip_at ks ls ms os e j h) ∙ ⊎_elim (λ i. rw i (not-it (omega arith))) (λ ne. miss j h ne) (same j r))
+      (λ j k. let h : j < length ks = omega arith in ap fits (zip_at ks ls ms os e j h) ∙ ⊎_elim (λ i. rw i (not-it (omega arith))) (λ ne. miss j h ne) (cases_eq j r))
 
 pub singles_parts : (starts ends steps deltas : List ℕ) → tidy_singles starts ends steps deltas ≡ true
     → (apart 0 starts ends ≡ true) × Even starts ends steps deltas
@@ -76,9 +76,9 @@ singles_parts starts ends steps deltas t =
     let a = apart 0 starts ends in
     let b = eqb (length steps) (length starts) in
     let d = eqb (length deltas) (length starts) in
-    let u = and_left (a && b) d t in
-    let v = and_left a b u in
-    (v, record { second = apart_length 0 starts ends v; third = eqb-true _ _ (and_right a b u); fourth = eqb-true _ _ (and_right (a && b) d t) })
+    let u = (and_parts (a && b) d t).0 in
+    let v = (and_parts a b u).0 in
+    (v, record { second = apart_length 0 starts ends v; third = eqb-true _ _ (and_parts a b u).1; fourth = eqb-true _ _ (and_parts (a && b) d t).1 })
 
 pub multis_parts : (multi first second third : List ℕ) → tidy_multis multi first second third ≡ true
     → (apart 0 multi multi ≡ true) × Even multi first second third
@@ -88,10 +88,10 @@ multis_parts multi first second third t =
     let b = eqb (length first) (length multi) in
     let c = eqb (length second) (length multi) in
     let d = eqb (length third) (length multi) in
-    let u = and_left (a && b && c) d t in
-    let v = and_left (a && b) c u in (
-      and_left a b v,
-      record { second = eqb-true _ _ (and_right a b v); third = eqb-true _ _ (and_right (a && b) c u); fourth = eqb-true _ _ (and_right (a && b && c) d t) },
+    let u = (and_parts (a && b && c) d t).0 in
+    let v = (and_parts (a && b) c u).0 in (
+      (and_parts a b v).0,
+      record { second = eqb-true _ _ (and_parts a b v).1; third = eqb-true _ _ (and_parts (a && b) c u).1; fourth = eqb-true _ _ (and_parts (a && b && c) d t).1 },
     )
 
 module _ (starts ends steps deltas : List ℕ) (plane x : ℕ) (other : Mapping) (t : tidy_singles starts ends steps deltas ≡ true) where
@@ -101,14 +101,14 @@ module _ (starts ends steps deltas : List ℕ) (plane x : ℕ) (other : Mapping)
     unfolding single
     single_found l hit =
         found starts ends steps deltas (singles_parts starts ends steps deltas t).1 (λ q. covers q.0 q.1 q.2 x) (λ q. made (moved plane x q.3) 0 0) other r
-        (λ j k ne. and_not_left _ _ (o.others j k ne)) l hit
+        (λ j k ne. and_left _ _ (o.others j k ne)) l hit
 
     pub single_missed : (r < length starts → covers (get_or starts r 0) (get_or ends r 0) (get_or steps r 0) x ≡ false)
         → single (zip starts ends steps deltas) plane x other ≡ other
     unfolding single
     single_missed not-it =
         missed starts ends steps deltas (singles_parts starts ends steps deltas t).1 (λ q. covers q.0 q.1 q.2 x) (λ q. made (moved plane x q.3) 0 0) other r
-        (λ j k ne. and_not_left _ _ (o.others j k ne)) not-it
+        (λ j k ne. and_left _ _ (o.others j k ne)) not-it
 
 -- a row that starts and ends at k holds k alone
 alone : (k x : ℕ) → between k k x ≡ false → eqb k x ≡ false

@@ -3,7 +3,8 @@
 use Rattle.std.proofs.Common.{◌≡◌, ℕ, zero, suc, ◌<◌, ◌≤◌, Bool, true, false, ◌&&◌, leb, List, [], ◌∷◌, length, get_or, refl, ⊎_elim, arith, leb-true}
 use borrow.Author.Tests.{lt-leb}
 use Rattle.scalar.specs.Scalars.{between}
-use Rattle.sets.proofs.Decide.{split, and_left, and_right}
+use Rattle.std.proofs.lemmas.Bool.{and_parts}
+use Rattle.sets.proofs.Decide.{split}
 use Rattle.casing.specs.Rows.{apart}
 use Rattle.casing.specs.Reading.{Halved}
 
@@ -19,10 +20,10 @@ and_no_right false t p = refl
 apart_on : (p s e : ℕ) (ss es : List ℕ) → apart p (s ∷ ss) (e ∷ es) ≡ true → (p ≤ s) × (s ≤ e) × (apart (suc e) ss es ≡ true)
 unfolding apart
 apart_on p s e ss es t =
-    let u = and_left (leb p s && leb s e) (apart (suc e) ss es) t in (
-      leb-true p s (and_left (leb p s) (leb s e) u),
-      leb-true s e (and_right (leb p s) (leb s e) u),
-      and_right (leb p s && leb s e) (apart (suc e) ss es) t,
+    let u = (and_parts (leb p s && leb s e) (apart (suc e) ss es) t).0 in (
+      leb-true p s (and_parts (leb p s) (leb s e) u).0,
+      leb-true s e (and_parts (leb p s) (leb s e) u).1,
+      (and_parts (leb p s && leb s e) (apart (suc e) ss es) t).1,
     )
 
 -- what the test says of the row at j: it starts at p or later, it ends where it starts or later, and each row before it ends below its start

@@ -2,7 +2,8 @@
 -- a floor on. Written out they are one list; if that list is Unicode's, and a few tests hold, the mapping is what Unicode's
 -- list says of every number. The argument is made here once, and each mapping cites it. Assumes nothing.
 use Rattle.std.proofs.Common.{◌≡◌, ℕ, ◌/◌, ◌%◌, ◌<◌, ◌≤◌, Bool, true, ◌&&◌, ◌⊎◌, List, ◌++◌, sym, refl, ap, ◌∙◌, inl, inr, ⊎_elim, arith, le-ltb, lt-ltb, eq-eqb, ne_eqb}
-use Rattle.sets.proofs.Decide.{split, and_left, and_right}
+use Rattle.std.proofs.lemmas.Bool.{and_parts}
+use Rattle.sets.proofs.Decide.{split}
 use Rattle.casing.specs.declared.Mapping.{Mapping}
 use Rattle.casing.specs.Answers.{made}
 use Rattle.casing.specs.Rows.{Rows, Row, single, multiple, singles, multis, looked, in_rows, from_floor}
@@ -41,11 +42,11 @@ record Sound (floor : ℕ) (rows0 rows1 : Rows) : Type 0 where
 tested : (a b c d e f : Bool) → (a && (b && (c && (d && (e && f))))) ≡ true
     → (a ≡ true) × (b ≡ true) × (c ≡ true) × (d ≡ true) × (e ≡ true) × (f ≡ true)
 tested a b c d e f t =
-    let t1 = and_right a (b && (c && (d && (e && f)))) t in
-    let t2 = and_right b (c && (d && (e && f))) t1 in
-    let t3 = and_right c (d && (e && f)) t2 in
-    let t4 = and_right d (e && f) t3 in
-    (and_left a _ t, and_left b _ t1, and_left c _ t2, and_left d _ t3, and_left e f t4, and_right e f t4)
+    let t1 = (and_parts a (b && (c && (d && (e && f)))) t).1 in
+    let t2 = (and_parts b (c && (d && (e && f))) t1).1 in
+    let t3 = (and_parts c (d && (e && f)) t2).1 in
+    let t4 = (and_parts d (e && f) t3).1 in
+    ((and_parts a _ t).0, (and_parts b _ t1).0, (and_parts c _ t2).0, (and_parts d _ t3).0, (and_parts e f t4).0, (and_parts e f t4).1)
 
 module _ (floor : ℕ) (rows0 rows1 : Rows) (under : List Row) (low : floor ≤ 65536) (t : sound floor rows0 rows1 ≡ true) where
   parts : Sound floor rows0 rows1

@@ -1,13 +1,17 @@
--- The answer of a mapping: three numbers with a count, or a refusal. Assumes nothing: these are definitions.
-use Rattle.std.specs.Prelude.{◌≡◌, ℕ, ◌+◌, ◌-◌, cond, [], ◌∷◌, ◌==◌, ◌≢◌}
+-- The answer of a mapping: three numbers with a count. Assumes nothing: these are definitions.
+use Rattle.std.specs.Prelude.{◌≡◌, ℕ, ◌+◌, ◌-◌, cond, [], ◌∷◌, ◌==◌, ◌≢◌, List, Result, Ok, Err}
 use Rattle.scalar.specs.Scalars.{ascii_upper, ascii_lower}
 use Rattle.scalar.specs.declared.refusal.Refusal.{Refusal}
-use Rattle.scalar.specs.declared.refusal.Refusal.TheVariants as refusal
 use Rattle.casing.specs.declared.Mapping.{Mapping}
 
--- a refused mapping holds three zeros and count 0
-abbrev pub refused : Refusal → Mapping
-refused r = record { to = 0 ∷ 0 ∷ 0 ∷ []; count = 0; refusal = r }
+-- what C reads of an answer: the numbers and their count; of a refused one three zeros and count 0
+abbrev pub to_of : Result Mapping Refusal → List ℕ
+to_of (Ok m) = m.to
+to_of (Err r) = 0 ∷ 0 ∷ 0 ∷ []
+
+abbrev pub count_of : Result Mapping Refusal → ℕ
+count_of (Ok m) = m.count
+count_of (Err r) = 0
 
 -- unused ones are 0: zeros are trimmed from the end, and never the first number
 abbrev pub used : ℕ → ℕ → ℕ
@@ -21,7 +25,7 @@ pub record Used (second third count : ℕ) : Type 0 where
 
 -- the three mapped numbers go by value, with a count of 1 to 3
 unfoldable pub made : ℕ → ℕ → ℕ → Mapping
-made first second third = record { to = first ∷ second ∷ third ∷ []; count = used second third; refusal = refusal.None }
+made first second third = record { to = first ∷ second ∷ third ∷ []; count = used second third }
 
 -- only ASCII letters change
 abbrev pub ascii_lowered : ℕ → ℕ

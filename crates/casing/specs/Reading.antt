@@ -1,27 +1,22 @@
 -- How a plane's rows are laid out for reading: each single row packed into a word, and for each page of 256 numbers the single
 -- rows that can hold them. Assumes nothing: these are definitions.
-use Rattle.std.specs.Prelude.{◌≡◌, ℕ, suc, ◌+◌, ◌*◌, ◌/◌, ◌%◌, ◌<◌, ◌≤◌, Bool, true, false, cond, ◌&&◌, List, [], ◌∷◌, length, ◌==◌, nat_le, nat_lt, slice_index}
+use Rattle.std.specs.Prelude.{◌≡◌, ℕ, suc, ◌+◌, ◌*◌, ◌/◌, ◌%◌, ◌<◌, ◌≤◌, Bool, true, false, cond, ◌&&◌, List, [], ◌∷◌, length, ◌==◌, nat_le, nat_lt, slice_index, Option, Some, None}
 use Rattle.casing.specs.declared.Mapping.{Mapping}
-use Rattle.casing.specs.declared.kernel.Found.{Found}
-use Rattle.casing.specs.declared.kernel.Found.TheVariants.{To, Nothing}
-use Rattle.casing.specs.declared.kernel.Four.{Four}
-use Rattle.casing.specs.declared.kernel.Page.{Page}
-use Rattle.casing.specs.declared.kernel.Page.TheVariants as page
 use Rattle.casing.specs.Answers.{made}
 use Rattle.casing.specs.Rows.{Rows, Row, covers, moved, singles, apart, tidy_singles, tidy_multis}
 
 -- the numbers that were found, as an answer, or else other
-abbrev pub or_else : Found → Mapping → Mapping
-or_else (To a b c) other = made a b c
-or_else Nothing other = other
+abbrev pub or_else : Option (ℕ × ℕ × ℕ) → Mapping → Mapping
+or_else (Some (a, b, c)) other = made a b c
+or_else None other = other
 
 -- what was found is what these rows say, whatever stands under them
-abbrev pub Says : Found → (Mapping → Mapping) → Type 0
+abbrev pub Says : Option (ℕ × ℕ × ℕ) → (Mapping → Mapping) → Type 0
 Says found rows = (other : Mapping) → or_else found other ≡ rows other
 
 -- where one single row sends a number
-abbrev pub row_says : Row → ℕ → ℕ → Found
-row_says q plane x = cond (covers q.0 q.1 q.2 x) (To (moved plane x q.3) 0 0) Nothing
+abbrev pub row_says : Row → ℕ → ℕ → Option (ℕ × ℕ × ℕ)
+row_says q plane x = cond (covers q.0 q.1 q.2 x) (Some (moved plane x q.3, 0, 0)) None
 
 -- the four numbers of a row in a word, 16 bits each, the start lowest
 abbrev pub word_of : Row → ℕ
@@ -35,20 +30,20 @@ packed [] = []
 packed (q ∷ qs) = word_of q ∷ packed qs
 
 -- the words four by four, and 0 past the last
-abbrev pub four_at : List ℕ → ℕ → Four
+abbrev pub four_at : List ℕ → ℕ → List ℕ
 four_at words k =
-    record { a = slice_index words (k * 4); b = slice_index words (k * 4 + 1); c = slice_index words (k * 4 + 2); d = slice_index words (k * 4 + 3) }
+    slice_index words (k * 4) ∷ slice_index words (k * 4 + 1) ∷ slice_index words (k * 4 + 2) ∷ slice_index words (k * 4 + 3) ∷ []
 
 -- r is the word at i, if the four are those that hold it
-abbrev pub RowOf : Four → ℕ → ℕ → Type 0
+abbrev pub RowOf : List ℕ → ℕ → ℕ → Type 0
 RowOf four i r = (words : List ℕ) → four ≡ four_at words (i / 4) → r ≡ slice_index words i
 
 -- a flat list, page by page: the page, its first row, the row after its last; a page that is not listed is empty
-unfoldable pub page_of : List ℕ → ℕ → Page
-page_of [] x = page.Empty
-page_of (p ∷ []) x = page.Empty
-page_of (p ∷ (a ∷ [])) x = page.Empty
-page_of (p ∷ (a ∷ (b ∷ l))) x = cond (p == x) (page.Rows a b) (page_of l x)
+unfoldable pub page_of : List ℕ → ℕ → Option (ℕ × ℕ)
+page_of [] x = None
+page_of (p ∷ []) x = None
+page_of (p ∷ (a ∷ [])) x = None
+page_of (p ∷ (a ∷ (b ∷ l))) x = cond (p == x) (Some (a, b)) (page_of l x)
 
 -- what halving finds among the rows from first to before last
 pub record Halved (ends : List ℕ) (first last x r : ℕ) : Type 0 where
@@ -58,13 +53,13 @@ pub record Halved (ends : List ℕ) (first last x r : ℕ) : Type 0 where
   pub reached : r < last → x ≤ slice_index ends r
 
 -- the row at j is one of the page's
-abbrev pub among : Page → ℕ → Bool
-among (page.Rows a b) j = nat_le a j && nat_lt j b
-among page.Empty j = false
+abbrev pub among : Option (ℕ × ℕ) → ℕ → Bool
+among (Some (a, b)) j = nat_le a j && nat_lt j b
+among None j = false
 
-abbrev pub in_use : Page → Bool
-in_use (page.Rows a b) = true
-in_use page.Empty = false
+abbrev pub in_use : Option (ℕ × ℕ) → Bool
+in_use (Some rows) = true
+in_use None = false
 
 -- each single row, from the one at j on, is among the rows of the page where it starts and of the page where it ends: the same or the next
 unfoldable pub singles_paged : List ℕ → ℕ → List ℕ → List ℕ → Bool

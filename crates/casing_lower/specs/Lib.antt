@@ -1,3 +1,4 @@
 pub mod Table
 pub mod Unicode
 pub mod Planes
+pub mod Readable

@@ -1,25 +1,21 @@
 -- The packed rows, written out with the upper mapping's list under them, are Unicode's list: one comparison and the tests of the
 -- rows, computed. So the title mapping is what Unicode's list says. Assumes nothing.
+-- A lemma that no proof cites any more stands because docs/PORT.md names it.
 use Rattle.std.specs.Prelude.{◌≡◌, ℕ, true}
 use mathlib.Core.Path.{◌∙◌, refl, sym, ap}
 use lib.Dec.{lit≤}
 use Rattle.scalar.specs.Scalars.{scalar_else}
 use Rattle.casing.specs.declared.Mapping.{Mapping}
 use Rattle.casing.specs.Answers.{made}
-use Rattle.casing.specs.Reading.{page_of, singles_paged, multis_paged, pages_fit, rows_fit, readable}
-use Rattle.casing.specs.Rows.{zip, first_row, single, multiple, looked, apart, tidy_singles, tidy_multis, from_floor}
+use Rattle.casing.specs.Rows.{zip, first_row, single, multiple, looked, from_floor}
 use Rattle.casing.specs.Listed.{quads, row_of}
 use Rattle.casing.proofs.Expand.{find, scan, expand_singles, expand_multis, merge, rising, spans, lies}
 use Rattle.casing.proofs.Whole.{made_row, written, sound, list_maps}
 use Rattle.casing.proofs.Scalars.{scalars}
 use Rattle.casing_upper.specs.Unicode as upper
-use Rattle.casing_title.specs.Table.{starts0, ends0, steps0, deltas0, multi0, multi0_first, multi0_second, multi0_third, pages0, starts1, ends1, steps1, deltas1, multi1, multi1_first, multi1_second, multi1_third}
+use Rattle.casing_title.specs.Table.{starts0, ends0, steps0, deltas0, multi0, multi0_first, multi0_second, multi0_third, starts1, ends1, steps1, deltas1, multi1, multi1_first, multi1_second, multi1_third}
 use Rattle.casing_title.specs.Unicode.{rows}
 use Rattle.casing_title.specs.Planes.{plane0, plane1}
-
-pub readable0 : readable plane0 pages0 ≡ true
-unfolding readable tidy_singles tidy_multis apart singles_paged multis_paged pages_fit rows_fit page_of zip starts0 ends0 steps0 deltas0 multi0 multi0_first multi0_second multi0_third pages0
-readable0 = refl
 
 right : written plane0 plane1 (quads upper.rows) ≡ quads rows
 unfolding upper.rows starts0 ends0 steps0 deltas0 multi0 multi0_first multi0_second multi0_third starts1 ends1 steps1 deltas1 multi1 multi1_first multi1_second multi1_third rows zip quads scan expand_singles expand_multis merge

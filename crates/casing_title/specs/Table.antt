@@ -100,3 +100,8 @@ multi1_second =
 unfoldable pub multi1_third : List ℕ
 multi1_third =
     []
+
+-- plane 1: each page that has rows, with its single rows from the first index to before the second
+unfoldable pub pages1 : List ℕ
+pages1 =
+    []

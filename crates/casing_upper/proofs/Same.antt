@@ -1,29 +1,21 @@
 -- The packed rows, written out with the ASCII letters under them, are Unicode's list: one comparison and the tests of the rows,
 -- computed. So the upper mapping is what Unicode's list says. Assumes nothing.
+-- A lemma that no proof cites any more stands because docs/PORT.md names it.
 use Rattle.std.specs.Prelude.{◌≡◌, ℕ, true, []}
 use mathlib.Core.Path.{◌∙◌, refl, sym, ap}
 use lib.Dec.{lit≤}
 use Rattle.scalar.specs.Scalars.{scalar_else}
 use Rattle.casing.specs.declared.Mapping.{Mapping}
 use Rattle.casing.specs.Answers.{made, ascii_uppered}
-use Rattle.casing.specs.Reading.{page_of, singles_paged, multis_paged, pages_fit, rows_fit, readable}
-use Rattle.casing.specs.Rows.{zip, apart, tidy_singles, tidy_multis, from_floor}
+use Rattle.casing.specs.Rows.{zip, from_floor}
 use Rattle.casing.specs.Listed.{quads, row_of}
 use Rattle.casing.proofs.Expand.{scan, expand_singles, expand_multis, merge, rising, spans, lies}
 use Rattle.casing.proofs.Whole.{written, sound, list_maps}
 use Rattle.casing.proofs.Scalars.{scalars}
 use Rattle.casing.proofs.Letters.{letters, upper_letters}
-use Rattle.casing_upper.specs.Table.{starts0, ends0, steps0, deltas0, multi0, multi0_first, multi0_second, multi0_third, pages0, starts1, ends1, steps1, deltas1, multi1, multi1_first, multi1_second, multi1_third, pages1}
+use Rattle.casing_upper.specs.Table.{starts0, ends0, steps0, deltas0, multi0, multi0_first, multi0_second, multi0_third, starts1, ends1, steps1, deltas1, multi1, multi1_first, multi1_second, multi1_third}
 use Rattle.casing_upper.specs.Unicode.{rows}
 use Rattle.casing_upper.specs.Planes.{plane0, plane1}
-
-pub readable0 : readable plane0 pages0 ≡ true
-unfolding readable tidy_singles tidy_multis apart singles_paged multis_paged pages_fit rows_fit page_of zip starts0 ends0 steps0 deltas0 multi0 multi0_first multi0_second multi0_third pages0
-readable0 = refl
-
-pub readable1 : readable plane1 pages1 ≡ true
-unfolding readable tidy_singles tidy_multis apart singles_paged multis_paged pages_fit rows_fit page_of zip starts1 ends1 steps1 deltas1 multi1 multi1_first multi1_second multi1_third pages1
-readable1 = refl
 
 pub no_multi1 : plane1.multi ≡ []
 unfolding multi1

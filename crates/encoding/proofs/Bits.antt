@@ -1,8 +1,7 @@
 -- The columns of a table side by side are the number: a column and the one below it join to one column. Assumes nothing.
-use Prim.Native.Nat.{ℕ, ◌+◌, ◌*◌, ◌-◌, ◌/◌, ◌%◌, ◌^◌, ◌≤◌, ◌<◌}
+use Prim.Native.Nat.{ℕ, ◌+◌, ◌*◌, ◌/◌, ◌%◌, ◌^◌, ◌<◌}
 use mathlib.Core.Path.{◌≡◌, ◌∙◌, sym, ap}
 use native.Mathlib.Nat.{div-div-eq-div-mul, mod-eq_of_lt, div-one}
-use native.Mathlib.Omega.{arith}
 use lib.Arith.{mod-mul}
 use lib.Pow.{pow-add, pow_pos}
 use Rattle.encoding.specs.Tables.{bits}
@@ -19,13 +18,3 @@ lowest w n = ap (λ (k : ℕ). k % 2 ^ w) (sym (div-one n))
 
 pub whole : (w n : ℕ) → n < 2 ^ w → bits 0 w n ≡ n
 whole w n l = sym (lowest w n) ∙ mod-eq_of_lt l
-
--- the high half of a pair: 0x10000 taken off before the shift is 1 taken off the five high bits after it
-one_off : (x y q : ℕ) → q ≡ x * 2 ^ 6 + y → 1 ≤ x → q - 64 ≡ (x - 1) * 2 ^ 6 + y
-one_off x y q e l = omega arith
-
-pub high_half : (n : ℕ) → 0x10000 ≤ n → n ≤ 0x10FFFF → (n - 0x10000) / 1024 ≡ (bits 16 5 n - 1) * 2 ^ 6 + bits 10 6 n
-high_half n g l =
-    let e : (n - 0x10000) / 1024 ≡ n / 1024 - 64 = omega arith in
-    let f : n / 1024 < 2 ^ 11 = omega arith in
-    e ∙ one_off (bits 16 5 n) (bits 10 6 n) (n / 1024) (sym (mod-eq_of_lt f) ∙ join 10 6 5 n) (omega arith)

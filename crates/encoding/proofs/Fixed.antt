@@ -1,7 +1,5 @@
 -- Any two results that a promise of this crate allows are equal, and so is what memory holds. Assumes nothing.
 use mathlib.Core.Path.{◌≡◌, ◌∙◌, sym}
-use Rattle.encoding.proofs.Length.refusal.Reads as length_refusal
-use Rattle.encoding.proofs.Length.units.Reads as length_units
 use Rattle.encoding.proofs.utf8.len_utf8.Reads as len_utf8
 use Rattle.encoding.proofs.utf8.encode_utf8.Reads as encode_utf8
 use Rattle.encoding.proofs.utf16.len_utf16.Reads as len_utf16
@@ -20,9 +18,3 @@ encode_utf8_fixed κs a r r' s s' p q = (p.answers ∙ sym q.answers, p.leaves �
 encode_utf16_fixed : (κs : _) (a : _) (r r' : _) (s s' : _) → encode_utf16.Post κs a r s → encode_utf16.Post κs a r' s'
     → (r ≡ r') × (s.1.0.now ≡ s'.1.0.now)
 encode_utf16_fixed κs a r r' s s' p q = (p.answers ∙ sym q.answers, p.leaves ∙ sym q.leaves)
-
-refusal_fixed : (κs : _) (a : _) (r r' : _) (s s' : _) → length_refusal.Post κs a r s → length_refusal.Post κs a r' s' → r ≡ r'
-refusal_fixed κs a r r' s s' p q = p ∙ sym q
-
-units_fixed : (κs : _) (a : _) (r r' : _) (s s' : _) → length_units.Post κs a r s → length_units.Post κs a r' s' → r ≡ r'
-units_fixed κs a r r' s s' p q = p ∙ sym q

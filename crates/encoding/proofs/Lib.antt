@@ -1,8 +1,6 @@
 mod Bits
 mod Rows
 pub mod Tables
-mod Stores
-mod Entries
-pub mod Agree
 mod Examples
+pub mod Agree
 mod Fixed

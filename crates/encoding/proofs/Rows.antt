@@ -1,38 +1,10 @@
--- The rows of Tables 3-6 and 3-5: which row a number falls in, and what holds of every row holds of the table's answer.
--- Assumes nothing.
+-- The rows of Tables 3-6 and 3-5: what holds of every row holds of the table's answer. Assumes nothing.
 use Prim.Native.Nat.{ℕ, ◌≤◌, ◌<◌}
 use mathlib.Core.Path.{◌≡◌, refl}
 use mathlib.Core.Bool.{Bool, true, false, cond}
 use lib.Dec.{ltb}
-use native.Mathlib.Omega.{arith}
-use borrow.Author.Tests.{lt-ltb, le-ltb, ltb-true, ltb-false}
+use borrow.Author.Tests.{ltb-true, ltb-false}
 use Rattle.encoding.specs.Tables.{row8, row16}
-
-module _ {A : Type 0} (n : ℕ) (a b c d : A) where
-  pub row8_one : n < 0x80 → row8 n a b c d ≡ a
-  unfolding row8
-  row8_one l = simp (lt-ltb n 0x80 l)
-
-  pub row8_two : 0x80 ≤ n → n < 0x800 → row8 n a b c d ≡ b
-  unfolding row8
-  row8_two g l = simp (le-ltb n 0x80 g, lt-ltb n 0x800 l)
-
-  pub row8_three : 0x800 ≤ n → n < 0x10000 → row8 n a b c d ≡ c
-  unfolding row8
-  row8_three g l = simp (le-ltb n 0x80 (omega arith), le-ltb n 0x800 g, lt-ltb n 0x10000 l)
-
-  pub row8_four : 0x10000 ≤ n → row8 n a b c d ≡ d
-  unfolding row8
-  row8_four g = simp (le-ltb n 0x80 (omega arith), le-ltb n 0x800 (omega arith), le-ltb n 0x10000 g)
-
-module _ {A : Type 0} (n : ℕ) (a b : A) where
-  pub row16_one : n < 0x10000 → row16 n a b ≡ a
-  unfolding row16
-  row16_one l = simp (lt-ltb n 0x10000 l)
-
-  pub row16_two : 0x10000 ≤ n → row16 n a b ≡ b
-  unfolding row16
-  row16_two g = simp (le-ltb n 0x10000 g)
 
 module _ {A : Type 0} (P : A → Type 0) (n : ℕ) where
   by_flag : (m : ℕ) (a b : A) (t : Bool) → ltb n m ≡ t → (n < m → P a) → (m ≤ n → P b) → P (cond t a b)

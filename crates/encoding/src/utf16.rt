@@ -5,60 +5,43 @@ ghost use Rattle.encoding.specs.Lengths.{measured};
 ghost use Rattle.encoding.specs.Writes.{Encodes};
 ghost use Rattle.sets.specs.Buffers.{over};
 
-use crate::Length;
-use scalar::{Refusal, Scalar, ScalarCheck};
+use crate::unit::{Unit, encode, len};
+use scalar::Refusal;
 
 // The first number that takes two units.
 const FIRST_PAIR: u32 = 0x10000;
 
 // The number of 16-bit units of a scalar value in UTF-16; refuses 1, then 2.
-pub fn len_utf16(n: u32) -> Length
+#[tactic(auto, using(crate::proofs::Tables::utf16_length))]
+pub fn len_utf16(n: u32) -> Result<usize, Refusal>
     ensures { result ≡ measured len_utf16 n }
 {
-    let check = Scalar::new(n);
-    let ScalarCheck::Valid(s) = check else {
-        return Length::Refused(check.refusal());
-    };
-    Length::Of(len_utf16_raw(s.value))
+    len::<u16>(n)
 }
 
 // Writes a scalar value in UTF-16 and answers how many units; refuses 1, 2, then 10, and then writes nothing.
-pub fn encode_utf16(n: u32, out: &mut [u16]) -> Length
+pub fn encode_utf16(n: u32, out: &mut [u16]) -> Result<usize, Refusal>
     ensures { Encodes utf16 n out.old result out.new }
 {
-    let check = Scalar::new(n);
-    let ScalarCheck::Valid(s) = check else {
-        return Length::Refused(check.refusal());
-    };
-    let code = s.value;
-    let need = len_utf16_raw(code);
-    if out.len() < need {
-        return Length::Refused(Refusal::ShortBuffer(need));
-    }
-    encode_utf16_raw(code, out);
-    Length::Of(need)
+    encode(n, out)
 }
 
-// The row of the table that a number falls in: as many units.
-fn len_utf16_raw(code: u32) -> usize
-    ensures { result ≡ len_utf16 code }
-{
-    if code < FIRST_PAIR {
-        return 1;
-    }
-    2
-}
+impl Unit for u16 {
+    ghost units = { utf16 };
 
-// The caller has seen that the units fit.
-fn encode_utf16_raw(code: u32, out: &mut [u16])
-    requires { (code ≤ 0x10FFFF) × (len_utf16 code ≤ length out.old) }
-    ensures { out.new ≡ over (utf16 code) out.old }
-{
-    if code < FIRST_PAIR {
-        write_unit(code, out);
-        return;
+    #[tactic(auto, unfolding(crate::specs::Tables::utf16, crate::specs::Tables::row16))]
+    fn count(code: u32) -> usize {
+        if code < FIRST_PAIR { 1 } else { 2 }
     }
-    write_pair(code, out);
+
+    #[tactic(auto, unfolding(crate::specs::Tables::utf16, crate::specs::Tables::row16))]
+    fn write(code: u32, out: &mut [u16]) {
+        if code < FIRST_PAIR {
+            write_unit(code, out);
+        } else {
+            write_pair(code, out);
+        }
+    }
 }
 
 fn write_unit(code: u32, out: &mut [u16])

@@ -5,8 +5,8 @@ ghost use Rattle.encoding.specs.Lengths.{measured};
 ghost use Rattle.encoding.specs.Writes.{Encodes};
 ghost use Rattle.sets.specs.Buffers.{over};
 
-use crate::Length;
-use scalar::{Refusal, Scalar, ScalarCheck};
+use crate::unit::{Unit, encode, len};
+use scalar::Refusal;
 
 const TAG_CONT: u8 = 0b1000_0000;
 
@@ -23,70 +23,45 @@ const MAX_TWO_B: u32 = 0x800;
 const MAX_THREE_B: u32 = 0x10000;
 
 // The number of bytes of a scalar value in UTF-8; refuses 1, then 2.
-pub fn len_utf8(n: u32) -> Length
+#[tactic(auto, using(crate::proofs::Tables::utf8_length))]
+pub fn len_utf8(n: u32) -> Result<usize, Refusal>
     ensures { result ≡ measured len_utf8 n }
 {
-    let check = Scalar::new(n);
-    let ScalarCheck::Valid(s) = check else {
-        return Length::Refused(check.refusal());
-    };
-    Length::Of(len_utf8_raw(s.value))
+    len::<u8>(n)
 }
 
 // Writes a scalar value in UTF-8 and answers how many bytes; refuses 1, 2, then 10, and then writes nothing.
-pub fn encode_utf8(n: u32, out: &mut [u8]) -> Length
+pub fn encode_utf8(n: u32, out: &mut [u8]) -> Result<usize, Refusal>
     ensures { Encodes utf8 n out.old result out.new }
 {
-    let check = Scalar::new(n);
-    let ScalarCheck::Valid(s) = check else {
-        return Length::Refused(check.refusal());
-    };
-    let code = s.value;
-    let need = len_utf8_raw(code);
-    if out.len() < need {
-        return Length::Refused(Refusal::ShortBuffer(need));
-    }
-    encode_utf8_raw(code, out);
-    Length::Of(need)
+    encode(n, out)
 }
 
-// The row of the table that a number falls in: as many bytes.
-fn len_utf8_raw(code: u32) -> usize
-    ensures { result ≡ len_utf8 code }
-{
-    if code < MAX_ONE_B {
-        return 1;
+impl Unit for u8 {
+    ghost units = { utf8 };
+
+    #[tactic(auto, unfolding(crate::specs::Tables::utf8, crate::specs::Tables::row8))]
+    fn count(code: u32) -> usize {
+        match code {
+            0..MAX_ONE_B => 1,
+            MAX_ONE_B..MAX_TWO_B => 2,
+            MAX_TWO_B..MAX_THREE_B => 3,
+            _ => 4,
+        }
     }
-    if code < MAX_TWO_B {
-        return 2;
+
+    #[tactic(auto, unfolding(crate::specs::Tables::utf8, crate::specs::Tables::row8))]
+    fn write(code: u32, out: &mut [u8]) {
+        match code {
+            0..MAX_ONE_B => write_one(code, out),
+            MAX_ONE_B..MAX_TWO_B => write_two(code, out),
+            MAX_TWO_B..MAX_THREE_B => write_three(code, out),
+            _ => write_four(code, out),
+        }
     }
-    if code < MAX_THREE_B {
-        return 3;
-    }
-    4
 }
 
-// The caller has seen that the bytes fit.
-fn encode_utf8_raw(code: u32, out: &mut [u8])
-    requires { len_utf8 code ≤ length out.old }
-    ensures { out.new ≡ over (utf8 code) out.old }
-{
-    if code < MAX_ONE_B {
-        write_one(code, out);
-        return;
-    }
-    if code < MAX_TWO_B {
-        write_two(code, out);
-        return;
-    }
-    if code < MAX_THREE_B {
-        write_three(code, out);
-        return;
-    }
-    write_four(code, out);
-}
-
-// A writer for each row, with its columns by / and %: those are proved where masks are not.
+// A writer for each row, since the columns differ, by / and %: those are proved where masks are not.
 fn write_one(code: u32, out: &mut [u8])
     requires { 1 ≤ length out.old }
     ensures { out.new ≡ over (one_byte code) out.old }

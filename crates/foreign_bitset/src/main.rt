@@ -2,6 +2,8 @@
 // first and then shifts right by 4, so that of the numbers 0 to 63 exactly 4 to 59 are in it. Shifting first would add 60 to 63.
 #![tactic(auto)]
 
+use bitset::Lent;
+use bitset::kernel::contains;
 use std::io;
 use std::io::Write;
 
@@ -15,20 +17,17 @@ const REAL: [u8; 1] = [0];
 
 const MAPPING: [u8; 1] = [0xC4];
 
-fn contains(n: u32) -> bool {
-    bitset::kernel::bitset_search(n, &MAP, &CHUNKS, &CANONICAL, &REAL, &MAPPING)
-}
-
-fn digit(n: u32) -> u8 {
-    if contains(n) { b'1' } else { b'0' }
-}
-
 fn main(rt: HostRuntime) -> io::Result<()> {
+    let table = Lent {
+        map: &MAP,
+        chunks: &CHUNKS,
+        canonical: &CANONICAL,
+        real: &REAL,
+        mapping: &MAPPING,
+    };
     let mut text = [b'\n'; 65];
-    let mut n: u32 = 0;
-    while n < 64 {
-        text[n as usize] = digit(n);
-        n += 1;
+    for (digit, n) in text.iter_mut().zip(0..64) {
+        *digit = if contains(&table, n) { b'1' } else { b'0' };
     }
     io::writer(&rt).write_all(&text)
 }

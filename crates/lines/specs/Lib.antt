@@ -1,3 +1,4 @@
+pub mod Buffers
 pub mod Inputs
 pub mod Numbers
 pub mod Texts

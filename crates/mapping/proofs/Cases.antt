@@ -1,17 +1,18 @@
 -- Document 01's cases marked P, as one statement over a single list of them, computed; and U+0000, which every mapping gives
 -- with count 1. Assumes nothing.
-use Rattle.std.specs.Prelude.{◌≡◌, ℕ, cond, List, [], ◌∷◌, map, take}
+use Rattle.std.specs.Prelude.{◌≡◌, ℕ, cond, List, [], ◌∷◌, map, take, Result, Ok, Err}
 use mathlib.Core.Path.{refl}
 use Rattle.scalar.specs.Scalars.{scalar_else}
+use Rattle.scalar.specs.declared.refusal.Refusal.{Refusal}
 use Rattle.casing.specs.declared.Mapping.{Mapping}
-use Rattle.casing.specs.Answers.{made}
+use Rattle.casing.specs.Answers.{to_of, count_of, made}
 use Rattle.casing.specs.Rows.{first_row}
 use Rattle.casing.specs.Listed.{quads, row_of, mapping_of}
 use Rattle.sets.specs.Boundaries.{count}
 use Rattle.skip.specs.Table.{walk, reads_from}
 use Rattle.skip.specs.Rules.{W3, W4, W5, lowest_of}
-use Rattle.skip.specs.Answers.{table_else, finds, found_yes, found_read}
-use Rattle.skip.specs.declared.Found.{Found}
+use Rattle.skip.specs.Answers.{table_else, finds}
+use Rattle.skip.specs.declared.kernel.Hit.{Hit}
 use Rattle.table_titlecase.specs.Table as titlecase-table
 use Rattle.casing_lower.specs.Unicode as lower-list
 use Rattle.casing_upper.specs.Unicode as upper-list
@@ -40,12 +41,13 @@ pub record Case : Type 0 where
   pub expected : List ℕ
 
 -- the numbers of a mapping, as many as it counts
-abbrev pub numbers : Mapping → List ℕ
-numbers m = take m.count m.to
+abbrev pub numbers : Result Mapping Refusal → List ℕ
+numbers answer = take (count_of answer) (to_of answer)
 
--- 1 for yes, 0 for no, and the offsets read
-abbrev pub found : Found → List ℕ
-found f = cond (found_yes f) 1 0 ∷ found_read f ∷ []
+-- 1 for yes, 0 for no, and the offsets read; no and 0 where the table or the number is refused
+abbrev pub found : Result Hit Refusal → List ℕ
+found (Ok hit) = cond hit.yes 1 0 ∷ hit.read ∷ []
+found (Err r) = 0 ∷ 0 ∷ []
 
 -- what the promise of the entry says of a case
 abbrev pub asked : Ask → ℕ → List ℕ
@@ -75,7 +77,7 @@ pub cases_hold : map said cases ≡ map (λ c. c.expected) cases
 unfolding cases scalar_else made first_row quads row_of lower-list.rows upper-list.rows title-list.rows titlecase-table.headers titlecase-table.offsets table_else lowest_of W3 W4 W5 walk count reads_from
 cases_hold = refl
 
-pub nul_counts_one : (k : Kind) → (mapping_of (list_of k) 0).count ≡ 1
+pub nul_counts_one : (k : Kind) → count_of (mapping_of (list_of k) 0) ≡ 1
 unfolding scalar_else made first_row quads row_of lower-list.rows upper-list.rows title-list.rows
 nul_counts_one lower = refl
 nul_counts_one upper = refl

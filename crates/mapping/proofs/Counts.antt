@@ -1,23 +1,22 @@
--- What every answer of an entry is like, over any list of rows: an answered mapping counts 1 to 3 numbers, a refused one none, and
--- every number past the count is 0. Assumes nothing.
-use Rattle.std.specs.Prelude.{◌≡◌, ℕ, zero, suc, ◌≤◌, Bool, true, false, cond, eqb, ltb, List, [], ◌∷◌, get_or}
+-- What every answer of an entry is like, over any list of rows: a mapping counts 1 to 3 numbers, a refusal none, and every number
+-- past the count is 0. Assumes nothing.
+use Rattle.std.specs.Prelude.{◌≡◌, ℕ, zero, suc, ◌≤◌, Bool, true, false, cond, eqb, ltb, List, [], ◌∷◌, get_or, Result, Ok, Err, IsOk, IsErr}
 use mathlib.Core.Path.{refl}
 use native.Mathlib.Omega.{arith}
 use borrow.Author.Tests.{eqb-true}
 use Rattle.scalar.specs.Scalars.{scalar_else, between}
-use Rattle.scalar.specs.Refusals.{number}
 use Rattle.scalar.specs.declared.refusal.Refusal.{Refusal}
 use Rattle.scalar.specs.declared.refusal.Refusal.TheVariants as refusal
 use Rattle.casing.specs.declared.Mapping.{Mapping}
-use Rattle.casing.specs.Answers.{refused, made}
+use Rattle.casing.specs.Answers.{to_of, count_of, made}
 use Rattle.casing.specs.Rows.{Row, first_row}
 use Rattle.casing.specs.Listed.{quads, row_of, mapping_of}
 
-pub record Counted (m : Mapping) : Type 0 where
-  pub past : (k : ℕ) → m.count ≤ k → get_or m.to k 0 ≡ 0
-  pub few : m.count ≤ 3
-  pub answered : number m.refusal ≡ 0 → 1 ≤ m.count
-  pub not_answered : (number m.refusal ≡ 0 → ⊥) → m.count ≡ 0
+pub record Counted (answer : Result Mapping Refusal) : Type 0 where
+  pub past : (k : ℕ) → count_of answer ≤ k → get_or (to_of answer) k 0 ≡ 0
+  pub few : count_of answer ≤ 3
+  pub answered : IsOk answer → 1 ≤ count_of answer
+  pub not_answered : IsErr answer → count_of answer ≡ 0
 
 get_or_beyond : (a b c k : ℕ) → 3 ≤ k → get_or (a ∷ b ∷ c ∷ []) k 0 ≡ 0
 get_or_beyond a b c zero l = absurd (omega arith)
@@ -42,19 +41,19 @@ module _ (a b c : ℕ) where
   one_to_three true false = (omega arith, omega arith)
   one_to_three false t = (omega arith, omega arith)
 
-  made_counted : Counted (made a b c)
+  made_counted : Counted (Ok (made a b c))
   unfolding made
   made_counted =
       let h = one_to_three (eqb c 0) (eqb b 0) in
-      record { past = past_made (eqb c 0) (eqb b 0) refl refl; few = h.0; answered = λ e. h.1; not_answered = λ ne. absurd (ne refl) }
+      record { past = past_made (eqb c 0) (eqb b 0) refl refl; few = h.0; answered = λ ok. h.1; not_answered = λ err. let no : ◌≡◌ {A = Bool} false true = err in let z : ◌≡◌ {A = ℕ} 0 1 = cc in absurd (omega arith) }
 
-row_counted : (n : ℕ) (qs : List Row) → Counted (first_row (λ q. eqb q.0 n) (λ q. made q.1 q.2 q.3) qs (made n 0 0))
+row_counted : (n : ℕ) (qs : List Row) → Counted (Ok (first_row (λ q. eqb q.0 n) (λ q. made q.1 q.2 q.3) qs (made n 0 0)))
 unfolding first_row
 row_counted n [] = made_counted n 0 0
 row_counted n (q ∷ qs) = by_test (eqb q.0 n) (row_counted n qs)
   where
-    by_test : (t : Bool) → Counted (first_row (λ q. eqb q.0 n) (λ q. made q.1 q.2 q.3) qs (made n 0 0))
-        → Counted (cond t (made q.1 q.2 q.3) (first_row (λ q. eqb q.0 n) (λ q. made q.1 q.2 q.3) qs (made n 0 0)))
+    by_test : (t : Bool) → Counted (Ok (first_row (λ q. eqb q.0 n) (λ q. made q.1 q.2 q.3) qs (made n 0 0)))
+        → Counted (Ok (cond t (made q.1 q.2 q.3) (first_row (λ q. eqb q.0 n) (λ q. made q.1 q.2 q.3) qs (made n 0 0))))
     by_test true on = made_counted q.1 q.2 q.3
     by_test false on = on
 
@@ -64,14 +63,14 @@ zeros (suc zero) = refl
 zeros (suc (suc zero)) = refl
 zeros (suc (suc (suc k))) = refl
 
-refused_counted : (r : Refusal) → (number r ≡ 0 → ⊥) → Counted (refused r)
-refused_counted r ne = record { past = λ k l. zeros k; few = omega arith; answered = λ e. absurd (ne e); not_answered = λ _. refl }
+refused_counted : (r : Refusal) → Counted (Err r)
+refused_counted r = record { past = λ k l. zeros k; few = omega arith; answered = λ ok. let no : ◌≡◌ {A = Bool} false true = ok in let z : ◌≡◌ {A = ℕ} 0 1 = cc in absurd (omega arith); not_answered = λ err. refl }
 
 pub mapping_counted : (list : List ℕ) (n : ℕ) → Counted (mapping_of list n)
 unfolding row_of scalar_else
 mapping_counted list n = by_tests (ltb 0x10FFFF n) (between 0xD800 0xDFFF n)
   where
-    by_tests : (s t : Bool) → Counted (cond s (refused refusal.AboveMax) (cond t (refused refusal.Surrogate) (row_of list n)))
-    by_tests true t = refused_counted refusal.AboveMax (λ e. omega arith)
-    by_tests false true = refused_counted refusal.Surrogate (λ e. omega arith)
+    by_tests : (s t : Bool) → Counted (cond s (Err refusal.AboveMax) (cond t (Err refusal.Surrogate) (Ok (row_of list n))))
+    by_tests true t = refused_counted refusal.AboveMax
+    by_tests false true = refused_counted refusal.Surrogate
     by_tests false false = row_counted n (quads list)

@@ -1,23 +1,19 @@
--- An entry over any number, for any list of rows: a refused check gives the refused mapping, a valid one the row of the number.
--- Assumes nothing.
-use Rattle.std.specs.Prelude.{◌≡◌, ℕ, List}
-use mathlib.Core.Path.{◌∙◌, sym, ap}
-use Rattle.scalar.specs.Scalars.{checked, refusal_of}
-use Rattle.scalar.specs.declared.Scalar.{Scalar}
-use Rattle.scalar.specs.declared.ScalarCheck.{ScalarCheck}
-use Rattle.scalar.specs.declared.ScalarCheck.TheVariants as check
+-- An entry over any number, for any list of rows: a refused check is the entry's own refusal, a valid one leads to the row of the
+-- number. Assumes nothing.
+-- A lemma that no proof cites any more stands because docs/PORT.md names it.
+use Rattle.std.specs.Prelude.{◌≡◌, ℕ, List, Ok, Err}
+use mathlib.Core.Path.{◌∙◌, ap}
+use Rattle.scalar.specs.Scalars.{checked}
 use Rattle.scalar.specs.declared.refusal.Refusal.{Refusal}
 use Rattle.scalar.specs.declared.refusal.Refusal.TheVariants as refusal
 use Rattle.scalar.proofs.Answers.{refused_as, valid_as, valid_value}
-use Rattle.casing.specs.Answers.{refused}
 use Rattle.casing.specs.Listed.{row_of, mapping_of}
 
-module _ (n : ℕ) (k : ScalarCheck) (is : k ≡ checked n) where
-  pub refused_entry : (list : List ℕ) (r : Refusal) → k ≡ check.Refused r → refused (refusal_of k) ≡ mapping_of list n
-  refused_entry list r e = ap (λ (z : ScalarCheck). refused (refusal_of z)) e ∙ refused_as n refused (row_of list n) r (sym e ∙ is)
+module _ (n : ℕ) where
+  pub refused_entry : (list : List ℕ) (r : Refusal) → Err r ≡ checked n → Err r ≡ mapping_of list n
+  refused_entry list r e = refused_as n Err (Ok (row_of list n)) r e
 
-  module _ (s : Scalar) (e : k ≡ check.Valid s) where
-    pub valid_entry : (list : List ℕ) → row_of list s.value ≡ mapping_of list n
-    valid_entry list =
-        ap (row_of list) (valid_value n s (sym e ∙ is))
-        ∙ valid_as n (refused refusal.AboveMax) (refused refusal.Surrogate) (row_of list n) s (sym e ∙ is)
+  pub valid_entry : (list : List ℕ) (v : ℕ) → Ok v ≡ checked n → Ok (row_of list v) ≡ mapping_of list n
+  valid_entry list v e =
+      ap (λ (k : ℕ). Ok (row_of list k)) (valid_value n v e)
+      ∙ valid_as n (Err refusal.AboveMax) (Err refusal.Surrogate) (Ok (row_of list n)) v e

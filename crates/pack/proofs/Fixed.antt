@@ -1,20 +1,8 @@
 -- Any two results that a promise of this crate allows are equal, and so is what the lent buffers hold. Assumes nothing.
 use mathlib.Core.Path.{◌≡◌, ◌∙◌, sym}
 use Rattle.pack.proofs.pack.Reads as pack
-use Rattle.pack.proofs.Packed.refusal.Reads as packed_refusal
-use Rattle.pack.proofs.Packed.headers.Reads as packed_headers
-use Rattle.pack.proofs.Packed.offsets.Reads as packed_offsets
 
 pack_fixed : (κs : _) (a : _) (r r' : _) (s s' : _) → pack.Post κs a r s → pack.Post κs a r' s'
     → (r ≡ r') × (s.1.0.now ≡ s'.1.0.now) × (s.1.1.0.now ≡ s'.1.1.0.now)
 pack_fixed κs a r r' s s' p q =
     (p.answers ∙ sym q.answers, p.leaves_headers ∙ sym q.leaves_headers, p.leaves_offsets ∙ sym q.leaves_offsets)
-
-packed_refusal_fixed : (κs : _) (a : _) (r r' : _) (s s' : _) → packed_refusal.Post κs a r s → packed_refusal.Post κs a r' s' → r ≡ r'
-packed_refusal_fixed κs a r r' s s' p q = p ∙ sym q
-
-packed_headers_fixed : (κs : _) (a : _) (r r' : _) (s s' : _) → packed_headers.Post κs a r s → packed_headers.Post κs a r' s' → r ≡ r'
-packed_headers_fixed κs a r r' s s' p q = p ∙ sym q
-
-packed_offsets_fixed : (κs : _) (a : _) (r r' : _) (s s' : _) → packed_offsets.Post κs a r s → packed_offsets.Post κs a r' s' → r ≡ r'
-packed_offsets_fixed κs a r r' s s' p q = p ∙ sym q

@@ -1,6 +1,6 @@
 pub mod Store
 pub mod Turns
-pub mod Accepted
+pub mod Edges
 pub mod Outcome
 pub mod Runs
 pub mod Written

@@ -3,6 +3,7 @@
 use Prim.Native.Nat.{ℕ, ◌+◌, ◌-◌, ◌<◌, ◌≤◌}
 use mathlib.Core.Path.{◌≡◌, ◌∙◌, sym, refl, ap}
 use mathlib.Core.List.{List, [], ◌∷◌, ◌++◌}
+use Rattle.std.specs.Prelude.{None}
 use mathlib.Core.Bool.{true, ◌&&◌}
 use mathlib.Core.Logic.{⊎_elim}
 use native.Mathlib.Omega.{arith}
@@ -19,7 +20,7 @@ use Rattle.skip.proofs.Lowest5.{none}
 use Rattle.pack.specs.Places.{InOrder, runs_of}
 use Rattle.pack.specs.Packing.{word, offsets_of, headers_of, headers, offsets}
 use Rattle.pack.proofs.Turns.{runs_small, runs_large, runs_end, headers_small, headers_large, headers_end, offsets_length, offsets_end}
-use Rattle.pack.proofs.Accepted.{headers_runs, edges_order}
+use Rattle.pack.proofs.Edges.{headers_runs, edges_order}
 use Rattle.pack.proofs.Runs.{start_word, sum_word, first_sum, rest_of, by_two, order_on, first_fits, end_headers, ends_past}
 
 module _ (n : ℕ) where
@@ -149,7 +150,7 @@ module _ (l : List ℕ) (g : Good l) where
   offsets_count = omega (arith, count_offsets, edges_length l g.even)
 
   -- the written table breaks no rule
-  pub passes : broken (headers l) (offsets l) ≡ 0
+  pub passes : broken (headers l) (offsets l) ≡ None
   passes =
       let r = runs_few 0 (edges l) in
       let k = headers_runs l in

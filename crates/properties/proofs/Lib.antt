@@ -1,4 +1,3 @@
-pub mod Ranges
-pub mod Entries
-pub mod Spaces
+pub mod Wholes
 mod Fixed
+mod Spaces

@@ -3,25 +3,19 @@ ghost use Rattle.std.specs.Prelude.{◌≡◌};
 ghost use Rattle.scalar.specs.Scalars.{answered};
 ghost use Rattle.properties.specs.Properties.{control};
 
-use scalar::ascii::is_between;
-use scalar::{Answer, Scalar, ScalarCheck};
+use scalar::{Refusal, Scalar};
 
+#[tactic(auto, unfolding(sets::specs::Lists::holds, crate::specs::Control::unicode))]
 fn control(n: u32) -> bool
     ensures { result ≡ control n }
 {
-    if n <= 0x1F {
-        return true;
-    }
-    is_between(0x7F, 0x9F, n)
+    matches!(n, 0..=0x1F | 0x7F..=0x9F)
 }
 
 // Whether n is category Cc; refuses 1, then 2.
-pub fn is_control(n: u32) -> Answer
+#[tactic(auto, unfolding(scalar::specs::Scalars::scalar_else))]
+pub fn is_control(n: u32) -> Result<bool, Refusal>
     ensures { result ≡ answered control n }
 {
-    let check = Scalar::new(n);
-    let ScalarCheck::Valid(s) = check else {
-        return Answer::Refused(check.refusal());
-    };
-    Answer::Is(control(s.value))
+    Ok(control(Scalar::new(n)?.value))
 }

@@ -1,8 +1,9 @@
-// The properties that have a table, of a number to 0x10FFFF. ASCII and every number below the table's first are answered
-// without the table, as in Rust's char/methods.rs.
-ghost use Rattle.std.specs.Prelude.{◌≡◌, ◌≤◌};
+// The properties that have a table. ASCII and every number below the table's first are answered
+// without the table, as in Rust's char/methods.rs. A line each: what stands before the table differs.
+ghost use Rattle.std.specs.Prelude.{◌≡◌};
 ghost use Rattle.properties.specs.Properties.{alphabetic, lowercase, uppercase, titlecase, numeric, cased, alphanumeric};
 
+use scalar::CodePoint;
 use scalar::ascii::{is_ascii_digit, is_ascii_lowercase, is_ascii_uppercase};
 
 // The first number of each table.
@@ -16,90 +17,53 @@ const FIRST_TITLECASE: u32 = 0x1C5;
 
 const FIRST_NUMERIC: u32 = 0xB2;
 
-pub fn alphabetic(n: u32) -> bool
-    requires { n ≤ 0x10FFFF }
-    ensures { result ≡ alphabetic n }
+#[tactic(auto, using(crate::proofs::Wholes::alphabetic_by))]
+pub fn alphabetic(n: CodePoint) -> bool
+    ensures { result ≡ alphabetic n.value }
 {
-    if is_ascii_lowercase(n) {
-        return true;
-    }
-    if is_ascii_uppercase(n) {
-        return true;
-    }
-    if n < FIRST_ALPHABETIC {
-        return false;
-    }
-    table_alphabetic::kernel::lookup(n)
+    is_ascii_lowercase(n.value)
+        || is_ascii_uppercase(n.value)
+        || (n.value >= FIRST_ALPHABETIC && table_alphabetic::kernel::lookup(n))
 }
 
+#[tactic(auto, using(crate::proofs::Wholes::lowercase_by))]
 pub fn lowercase(n: u32) -> bool
     ensures { result ≡ lowercase n }
 {
-    if is_ascii_lowercase(n) {
-        return true;
-    }
-    if n < FIRST_LOWERCASE {
-        return false;
-    }
-    table_lowercase::kernel::lookup(n)
+    is_ascii_lowercase(n) || (n >= FIRST_LOWERCASE && table_lowercase::kernel::lookup(n))
 }
 
+#[tactic(auto, using(crate::proofs::Wholes::uppercase_by))]
 pub fn uppercase(n: u32) -> bool
     ensures { result ≡ uppercase n }
 {
-    if is_ascii_uppercase(n) {
-        return true;
-    }
-    if n < FIRST_UPPERCASE {
-        return false;
-    }
-    table_uppercase::kernel::lookup(n)
+    is_ascii_uppercase(n) || (n >= FIRST_UPPERCASE && table_uppercase::kernel::lookup(n))
 }
 
-pub fn titlecase(n: u32) -> bool
-    requires { n ≤ 0x10FFFF }
-    ensures { result ≡ titlecase n }
+#[tactic(auto, using(crate::proofs::Wholes::titlecase_by))]
+pub fn titlecase(n: CodePoint) -> bool
+    ensures { result ≡ titlecase n.value }
 {
-    if n < FIRST_TITLECASE {
-        return false;
-    }
-    table_titlecase::kernel::lookup(n)
+    n.value >= FIRST_TITLECASE && table_titlecase::kernel::lookup(n)
 }
 
-pub fn numeric(n: u32) -> bool
-    requires { n ≤ 0x10FFFF }
-    ensures { result ≡ numeric n }
+#[tactic(auto, using(crate::proofs::Wholes::numeric_by))]
+pub fn numeric(n: CodePoint) -> bool
+    ensures { result ≡ numeric n.value }
 {
-    if is_ascii_digit(n) {
-        return true;
-    }
-    if n < FIRST_NUMERIC {
-        return false;
-    }
-    table_numeric::kernel::lookup(n)
+    is_ascii_digit(n.value) || (n.value >= FIRST_NUMERIC && table_numeric::kernel::lookup(n))
 }
 
 // Lowercase, uppercase or titlecase.
-pub fn cased(n: u32) -> bool
-    requires { n ≤ 0x10FFFF }
-    ensures { result ≡ cased n }
+pub fn cased(n: CodePoint) -> bool
+    ensures { result ≡ cased n.value }
 {
-    if lowercase(n) {
-        return true;
-    }
-    if uppercase(n) {
-        return true;
-    }
-    titlecase(n)
+    lowercase(n.value) || uppercase(n.value) || titlecase(n)
 }
 
 // Alphabetic or numeric.
-pub fn alphanumeric(n: u32) -> bool
-    requires { n ≤ 0x10FFFF }
-    ensures { result ≡ alphanumeric n }
+pub fn alphanumeric(n: CodePoint) -> bool
+    ensures { result ≡ alphanumeric n.value }
 {
-    if alphabetic(n) {
-        return true;
-    }
-    numeric(n)
+    alphabetic(n) || numeric(n)
 }

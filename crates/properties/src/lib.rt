@@ -1,4 +1,5 @@
-// The nine properties of Unicode 17.0.0, each over any number: refuses 1, then 2, else yes or no.
+// The nine properties of Unicode 17.0.0, each over any number: refuses 1, then 2, else yes or no. Promised names, a line
+// each: a generic function that takes the property would be no plainer.
 #![tactic(auto)]
 
 ghost use Rattle.std.specs.Prelude.{◌≡◌};
@@ -11,82 +12,61 @@ mod whitespace;
 
 pub use control::is_control;
 use kernel::{alphabetic, alphanumeric, cased, lowercase, numeric, titlecase, uppercase};
-use scalar::{Answer, Scalar, ScalarCheck};
+use scalar::{Refusal, Scalar};
 pub use whitespace::is_whitespace;
 
 // Whether n is Unicode's Alphabetic; refuses 1, then 2.
-pub fn is_alphabetic(n: u32) -> Answer
+#[tactic(auto, unfolding(scalar::specs::Scalars::scalar_else))]
+pub fn is_alphabetic(n: u32) -> Result<bool, Refusal>
     ensures { result ≡ answered alphabetic n }
 {
-    let check = Scalar::new(n);
-    let ScalarCheck::Valid(s) = check else {
-        return Answer::Refused(check.refusal());
-    };
-    Answer::Is(alphabetic(s.value))
+    Ok(alphabetic(Scalar::new(n)?.into()))
 }
 
 // Whether n is Unicode's Lowercase; refuses 1, then 2.
-pub fn is_lowercase(n: u32) -> Answer
+#[tactic(auto, unfolding(scalar::specs::Scalars::scalar_else))]
+pub fn is_lowercase(n: u32) -> Result<bool, Refusal>
     ensures { result ≡ answered lowercase n }
 {
-    let check = Scalar::new(n);
-    let ScalarCheck::Valid(s) = check else {
-        return Answer::Refused(check.refusal());
-    };
-    Answer::Is(lowercase(s.value))
+    Ok(lowercase(Scalar::new(n)?.value))
 }
 
 // Whether n is Unicode's Uppercase; refuses 1, then 2.
-pub fn is_uppercase(n: u32) -> Answer
+#[tactic(auto, unfolding(scalar::specs::Scalars::scalar_else))]
+pub fn is_uppercase(n: u32) -> Result<bool, Refusal>
     ensures { result ≡ answered uppercase n }
 {
-    let check = Scalar::new(n);
-    let ScalarCheck::Valid(s) = check else {
-        return Answer::Refused(check.refusal());
-    };
-    Answer::Is(uppercase(s.value))
+    Ok(uppercase(Scalar::new(n)?.value))
 }
 
 // Whether n is category Lt; refuses 1, then 2.
-pub fn is_titlecase(n: u32) -> Answer
+#[tactic(auto, unfolding(scalar::specs::Scalars::scalar_else))]
+pub fn is_titlecase(n: u32) -> Result<bool, Refusal>
     ensures { result ≡ answered titlecase n }
 {
-    let check = Scalar::new(n);
-    let ScalarCheck::Valid(s) = check else {
-        return Answer::Refused(check.refusal());
-    };
-    Answer::Is(titlecase(s.value))
+    Ok(titlecase(Scalar::new(n)?.into()))
 }
 
 // Whether n is lowercase, uppercase or titlecase; refuses 1, then 2.
-pub fn is_cased(n: u32) -> Answer
+#[tactic(auto, unfolding(scalar::specs::Scalars::scalar_else))]
+pub fn is_cased(n: u32) -> Result<bool, Refusal>
     ensures { result ≡ answered cased n }
 {
-    let check = Scalar::new(n);
-    let ScalarCheck::Valid(s) = check else {
-        return Answer::Refused(check.refusal());
-    };
-    Answer::Is(cased(s.value))
+    Ok(cased(Scalar::new(n)?.into()))
 }
 
 // Whether n is category Nd, Nl or No; refuses 1, then 2.
-pub fn is_numeric(n: u32) -> Answer
+#[tactic(auto, unfolding(scalar::specs::Scalars::scalar_else))]
+pub fn is_numeric(n: u32) -> Result<bool, Refusal>
     ensures { result ≡ answered numeric n }
 {
-    let check = Scalar::new(n);
-    let ScalarCheck::Valid(s) = check else {
-        return Answer::Refused(check.refusal());
-    };
-    Answer::Is(numeric(s.value))
+    Ok(numeric(Scalar::new(n)?.into()))
 }
 
 // Whether n is alphabetic or numeric; refuses 1, then 2.
-pub fn is_alphanumeric(n: u32) -> Answer
+#[tactic(auto, unfolding(scalar::specs::Scalars::scalar_else))]
+pub fn is_alphanumeric(n: u32) -> Result<bool, Refusal>
     ensures { result ≡ answered alphanumeric n }
 {
-    let check = Scalar::new(n);
-    let ScalarCheck::Valid(s) = check else {
-        return Answer::Refused(check.refusal());
-    };
-    Answer::Is(alphanumeric(s.value))
+    Ok(alphanumeric(Scalar::new(n)?.into()))
 }

@@ -1,47 +1,33 @@
-// White_Space: two ASCII ranges and a few others. It has no table.
+// White_Space: few enough ranges for a match on the number itself. It has no table.
 ghost use Rattle.std.specs.Prelude.{◌≡◌};
 ghost use Rattle.scalar.specs.Scalars.{answered};
-ghost use Rattle.sets.specs.Lists.{holds};
-ghost use Rattle.properties.specs.Properties.{whitespace, other_spaces};
+ghost use Rattle.properties.specs.Properties.{whitespace};
 
-use scalar::ascii::is_between;
-use scalar::{Answer, Scalar, ScalarCheck};
+use scalar::{Refusal, Scalar};
 
-// The whitespace past ASCII, few enough for a match on the number itself.
-fn other_whitespace(n: u32) -> bool
-    ensures { result ≡ holds other_spaces n }
-{
-    match n {
-        0x85 | 0xA0 | 0x1680 | 0x202F | 0x205F | 0x3000 => true,
-        0x2000..=0x200A => true,
-        0x2028..=0x2029 => true,
-        _ => false,
-    }
-}
-
-#[tactic(auto, using(crate::proofs::Spaces::no_space_below))]
+#[tactic(auto, unfolding(sets::specs::Lists::holds, crate::specs::WhiteSpace::unicode))]
 fn whitespace(n: u32) -> bool
     ensures { result ≡ whitespace n }
 {
-    if is_between(9, 13, n) {
-        return true;
-    }
-    if n == 0x20 {
-        return true;
-    }
-    if n < 0x85 {
-        return false;
-    }
-    other_whitespace(n)
+    matches!(
+        n,
+        9..=13
+            | 0x20
+            | 0x85
+            | 0xA0
+            | 0x1680
+            | 0x2000..=0x200A
+            | 0x2028..=0x2029
+            | 0x202F
+            | 0x205F
+            | 0x3000
+    )
 }
 
 // Whether n is Unicode's White_Space; refuses 1, then 2.
-pub fn is_whitespace(n: u32) -> Answer
+#[tactic(auto, unfolding(scalar::specs::Scalars::scalar_else))]
+pub fn is_whitespace(n: u32) -> Result<bool, Refusal>
     ensures { result ≡ answered whitespace n }
 {
-    let check = Scalar::new(n);
-    let ScalarCheck::Valid(s) = check else {
-        return Answer::Refused(check.refusal());
-    };
-    Answer::Is(whitespace(s.value))
+    Ok(whitespace(Scalar::new(n)?.value))
 }

@@ -1,127 +1,125 @@
 // The library's answer for a number, held against the one that the data gives.
-ghost use Rattle.std.specs.Prelude.{◌≤◌};
-
 use casing::Mapping;
-use scalar::{Answer, Scalar, ScalarCheck};
+use scalar::{Refusal, Scalar};
+use std::fmt;
 
-// The sections that are properties come first, then the mappings.
-pub const FIRST_MAPPING: u8 = 11;
-
-// What the data says of a number: whether it is listed, and of a mapping to which numbers.
-#[derive(Clone, Copy)]
-pub struct Want {
-    pub listed: bool,
-    pub to: [u32; 3],
-    pub count: usize,
+#[derive(Clone, Copy, Debug, PartialEq, Eq)]
+pub enum Property {
+    Alphabetic,
+    Alphanumeric,
+    Cased,
+    Control,
+    Lowercase,
+    Numeric,
+    Printable,
+    Titlecase,
+    Uppercase,
+    Whitespace,
 }
 
-#[derive(Clone, Copy)]
+#[derive(Clone, Copy, Debug, PartialEq, Eq)]
+pub enum CaseMapping {
+    Lower,
+    Title,
+    Upper,
+}
+
+// What a section of the data tells of each number.
+#[derive(Clone, Copy, Debug, PartialEq, Eq)]
+pub enum Kind {
+    Property(Property),
+    CaseMapping(CaseMapping),
+}
+
+// What the data says of a number.
+#[derive(Clone, Copy, Debug, PartialEq, Eq)]
+pub enum Want {
+    Unlisted,
+    Listed,
+    MapsTo(Mapping),
+}
+
+#[derive(Clone, Copy, Debug, Default, PartialEq, Eq)]
 pub struct Tally {
     pub compared: u64,
     pub differed: u64,
 }
 
-// One more, and no wrap.
-pub(crate) fn after(n: u64) -> u64 {
-    if n < u64::MAX { n + 1 } else { n }
-}
-
-pub(crate) fn unlisted() -> Want {
-    Want {
-        listed: false,
-        to: [0, 0, 0],
-        count: 0,
+impl fmt::Display for Tally {
+    fn fmt<W: fmt::Write>(&self, f: &mut fmt::Formatter<W>) -> fmt::Result {
+        write!(f, "compared={} differed={}", self.compared, self.differed)
     }
 }
 
-fn property(kind: u8, n: u32) -> Answer {
-    match kind {
-        1 => properties::is_alphabetic(n),
-        2 => properties::is_alphanumeric(n),
-        3 => properties::is_cased(n),
-        4 => properties::is_control(n),
-        5 => properties::is_lowercase(n),
-        6 => properties::is_numeric(n),
-        7 => printable::is_printable(n),
-        8 => properties::is_titlecase(n),
-        9 => properties::is_uppercase(n),
-        _ => properties::is_whitespace(n),
+impl Property {
+    // A match, since no function may hand out a function pointer.
+    fn holds(self, n: u32) -> Result<bool, Refusal> {
+        match self {
+            Property::Alphabetic => properties::is_alphabetic(n),
+            Property::Alphanumeric => properties::is_alphanumeric(n),
+            Property::Cased => properties::is_cased(n),
+            Property::Control => properties::is_control(n),
+            Property::Lowercase => properties::is_lowercase(n),
+            Property::Numeric => properties::is_numeric(n),
+            Property::Printable => printable::is_printable(n),
+            Property::Titlecase => properties::is_titlecase(n),
+            Property::Uppercase => properties::is_uppercase(n),
+            Property::Whitespace => properties::is_whitespace(n),
+        }
     }
 }
 
-fn is_property_right(kind: u8, n: u32, listed: bool) -> bool {
-    let answer = property(kind, n);
-    let Answer::Is(yes) = answer else {
-        return false;
-    };
-    yes == listed
-}
-
-fn are_equal(
-    to: [u32; 3],
-    count: usize,
-    first: u32,
-    second: u32,
-    third: u32,
-    numbers: usize,
-) -> bool {
-    if count != numbers {
-        return false;
-    }
-    if to[0] != first {
-        return false;
-    }
-    if to[1] != second {
-        return false;
-    }
-    to[2] == third
-}
-
-fn mapped(kind: u8, n: u32) -> Mapping {
-    match kind {
-        11 => mapping::to_lowercase(n),
-        12 => mapping::to_titlecase(n),
-        _ => mapping::to_uppercase(n),
+impl CaseMapping {
+    // A match, as above.
+    fn of(self, n: u32) -> Result<Mapping, Refusal> {
+        match self {
+            CaseMapping::Lower => mapping::to_lowercase(n),
+            CaseMapping::Title => mapping::to_titlecase(n),
+            CaseMapping::Upper => mapping::to_uppercase(n),
+        }
     }
 }
 
-// A number that is not listed maps to itself.
-fn is_mapping_right(kind: u8, n: u32, want: Want) -> bool {
-    let m = mapped(kind, n);
-    let to = m.to;
-    if want.listed {
-        let w = want.to;
-        return are_equal(to, m.count, w[0], w[1], w[2], want.count);
+impl Want {
+    // A number that is not listed maps to itself.
+    fn mapping(self, n: u32) -> Mapping {
+        match self {
+            Want::MapsTo(mapping) => mapping,
+            Want::Unlisted | Want::Listed => Mapping::new(n, 0, 0),
+        }
     }
-    are_equal(to, m.count, n, 0, 0, 1)
 }
 
-fn is_right(kind: u8, n: u32, want: Want) -> bool {
-    if kind < FIRST_MAPPING {
-        return is_property_right(kind, n, want.listed);
+impl Kind {
+    fn is_right(self, n: u32, want: Want) -> bool {
+        match self {
+            Kind::Property(property) => property.holds(n) == Ok(want != Want::Unlisted),
+            Kind::CaseMapping(mapping) => mapping.of(n) == Ok(want.mapping(n)),
+        }
     }
-    is_mapping_right(kind, n, want)
 }
 
-// The data has answers for scalar values alone.
-fn compared(mut t: Tally, kind: u8, n: u32, want: Want) -> Tally {
-    let ScalarCheck::Valid(_) = Scalar::new(n) else {
-        return t;
-    };
-    t.compared = after(t.compared);
-    if !is_right(kind, n, want) {
-        t.differed = after(t.differed);
+impl Tally {
+    pub(crate) fn plus(self, other: Tally) -> Tally {
+        Tally {
+            compared: self.compared.saturating_add(other.compared),
+            differed: self.differed.saturating_add(other.differed),
+        }
     }
-    t
-}
 
-// Every number from one up to, not including, another.
-pub(crate) fn compare(start: Tally, kind: u8, from: u32, to: u32, want: Want) -> Tally {
-    let mut t = start;
-    let mut n = from;
-    while n < to {
-        t = compared(t, kind, n, want);
-        n += 1;
+    fn count(&mut self, is_right: bool) {
+        self.compared = self.compared.saturating_add(1);
+        if !is_right {
+            self.differed = self.differed.saturating_add(1);
+        }
     }
-    t
+
+    // Every number from one up to, not including, another; the data has answers for scalar values alone.
+    pub(crate) fn compare(&mut self, kind: Kind, from: u32, to: u32, want: Want) {
+        for n in from..to {
+            if Scalar::new(n).is_ok() {
+                self.count(kind.is_right(n, want));
+            }
+        }
+    }
 }

@@ -1,20 +1,9 @@
 -- What crosses the boundary: document 01's number and values of each answer. Assumes nothing: these are definitions.
-use Rattle.std.specs.Prelude.{◌≡◌}
+use Rattle.std.specs.Prelude.{◌≡◌, ℕ, Bool, false, Result, Ok, Err, [], ◌∷◌}
 use Rattle.scalar.specs.Refusals.{number, carried}
-use Rattle.scalar.specs.Scalars.{refusal_of, answer_refusal, answer_yes}
-use Rattle.scalar.specs.declared.ScalarCheck.{ScalarCheck}
-use Rattle.scalar.specs.declared.Answer.{Answer}
-use Rattle.encoding.specs.Lengths.{length_refusal, length_units}
-use Rattle.encoding.specs.declared.Length.{Length}
-use Rattle.sets.specs.Answers.{list_refusal, list_ranges}
-use Rattle.sets.specs.declared.ListCheck.{ListCheck}
-use Rattle.skip.specs.Answers.{check_refusal, found_refusal, found_yes, found_read}
-use Rattle.skip.specs.declared.Checked.{Checked}
-use Rattle.skip.specs.declared.Found.{Found}
-use Rattle.pack.specs.Answers.{packed_refusal, packed_headers, packed_offsets}
+use Rattle.scalar.specs.declared.refusal.Refusal.{Refusal}
+use Rattle.skip.specs.declared.kernel.Hit.{Hit}
 use Rattle.pack.specs.declared.Packed.{Packed}
-use Rattle.unpack.specs.Answers.{unpacked_refusal, unpacked_numbers}
-use Rattle.unpack.specs.declared.Unpacked.{Unpacked}
 use Rattle.casing.specs.declared.Mapping.{Mapping}
 use Rattle.results.specs.declared.Verdict.{Verdict}
 use Rattle.results.specs.declared.YesNo.{YesNo}
@@ -33,42 +22,77 @@ pub record Crosses {A B : Type 0} (values : A → B) (promise : A → Type 0) (r
 abbrev pub Crossed : {A B : Type 0} → (A → B) → A → B → Type 0
 Crossed values a r = Crosses values (λ x. x ≡ a) r
 
--- of a check its refusal's number, 0 for none, and what it carries
-abbrev pub scalar_of : ScalarCheck → Verdict
-scalar_of s = record { refusal = number (refusal_of s); carried = carried (refusal_of s) }
+-- of any answer its refusal's number, 0 for none
+abbrev pub number_of : {A : Type 0} → Result A Refusal → ℕ
+number_of (Ok a) = 0
+number_of (Err r) = number r
 
-abbrev pub checked_of : Checked → Verdict
-checked_of c = record { refusal = number (check_refusal c); carried = carried (check_refusal c) }
+-- and what the refusal carries, 0 where there is none
+abbrev pub carried_of : {A : Type 0} → Result A Refusal → ℕ
+carried_of (Ok a) = 0
+carried_of (Err r) = carried r
+
+-- a value of an answer; what stands first for a refusal
+abbrev pub value_of : {A B : Type 0} → B → (A → B) → Result A Refusal → B
+value_of none f (Ok a) = f a
+value_of none f (Err r) = none
+
+-- of a check these two numbers
+abbrev pub verdict_of : {A : Type 0} → Result A Refusal → Verdict
+verdict_of a = record { refusal = number_of a; carried = carried_of a }
 
 -- the same beside yes or no
-abbrev pub yes_no_of : Answer → YesNo
-yes_no_of a = record { refusal = number (answer_refusal a); carried = carried (answer_refusal a); yes = answer_yes a }
+abbrev pub yes_no_of : Result Bool Refusal → YesNo
+yes_no_of a = record { refusal = number_of a; carried = carried_of a; yes = value_of false (λ yes. yes) a }
 
 -- and beside a count: the units of an encoding, the ranges of a list, the numbers of an unpacked list
-abbrev pub length_of : Length → Count
-length_of l = record { refusal = number (length_refusal l); carried = carried (length_refusal l); count = length_units l }
-
-abbrev pub ranges_of : ListCheck → Count
-ranges_of l = record { refusal = number (list_refusal l); carried = carried (list_refusal l); count = list_ranges l }
-
-abbrev pub numbers_of : Unpacked → Count
-numbers_of u = record { refusal = number (unpacked_refusal u); carried = carried (unpacked_refusal u); count = unpacked_numbers u }
+abbrev pub count_of : Result ℕ Refusal → Count
+count_of n = record { refusal = number_of n; carried = carried_of n; count = value_of 0 (λ count. count) n }
 
 -- and beside the answer of a search
-abbrev pub sought_of : Found → Sought
+abbrev pub sought_of : Result Hit Refusal → Sought
 sought_of f =
-    record { refusal = number (found_refusal f); carried = carried (found_refusal f); read = found_read f; yes = found_yes f }
+    record {
+      refusal = number_of f;
+      carried = carried_of f;
+      read = value_of 0 (λ hit. hit.read) f;
+      yes = value_of false (λ hit. hit.yes) f;
+    }
 
 -- and beside the lengths of a packed table
-abbrev pub sizes_of : Packed → Sizes
+abbrev pub sizes_of : Result Packed Refusal → Sizes
 sizes_of p =
     record {
-      refusal = number (packed_refusal p);
-      carried = carried (packed_refusal p);
-      headers = packed_headers p;
-      offsets = packed_offsets p;
+      refusal = number_of p;
+      carried = carried_of p;
+      headers = value_of 0 (λ packed. packed.headers) p;
+      offsets = value_of 0 (λ packed. packed.offsets) p;
     }
 
 -- a mapping, its refusal as a number; 1 and 2 carry nothing
-abbrev pub mapped_of : Mapping → Mapped
-mapped_of m = record { refusal = number m.refusal; count = m.count; to = m.to }
+abbrev pub mapped_of : Result Mapping Refusal → Mapped
+mapped_of m =
+    record {
+      refusal = number_of m;
+      count = value_of 0 (λ mapping. mapping.count) m;
+      to = value_of (0 ∷ (0 ∷ (0 ∷ []))) (λ mapping. mapping.to) m;
+    }
+
+-- the same, as relations of an answer and what crosses of it
+abbrev pub IsVerdict : {A : Type 0} → Result A Refusal → Verdict → Type 0
+IsVerdict a v = v ≡ verdict_of a
+
+abbrev pub IsYesNo : Result Bool Refusal → YesNo → Type 0
+IsYesNo a v = v ≡ yes_no_of a
+
+abbrev pub IsCount : Result ℕ Refusal → Count → Type 0
+IsCount a v = v ≡ count_of a
+
+abbrev pub IsSought : Result Hit Refusal → Sought → Type 0
+IsSought a v = v ≡ sought_of a
+
+abbrev pub IsSizes : Result Packed Refusal → Sizes → Type 0
+IsSizes a v = v ≡ sizes_of a
+
+abbrev pub IsMapped : Result Mapping Refusal → Mapped → Type 0
+IsMapped a v = v ≡ mapped_of a

@@ -1,113 +1,108 @@
-// The answers of the entries, as they cross: the refusal's number, what it carries, and the values.
-ghost use Rattle.std.specs.Prelude.{◌≡◌};
-ghost use Rattle.results.specs.Results.{scalar_of, checked_of, yes_no_of, length_of, ranges_of, numbers_of, sought_of, sizes_of, mapped_of};
+// The answers of the entries, as they cross: the refusal's number, 0 for none, what it carries, and the values, which a refusal
+// leaves 0.
+ghost use Rattle.results.specs.Results.{IsVerdict, IsYesNo, IsCount, IsSought, IsSizes, IsMapped};
 
 use crate::{Count, Mapped, Sizes, Sought, Verdict, YesNo};
 use casing::Mapping;
-use encoding::Length;
 use pack::Packed;
-use scalar::{Answer, ScalarCheck};
-use sets::ListCheck;
-use skip::{Checked, Found};
-use unpack::Unpacked;
+use scalar::Refusal;
+use skip::Hit;
 
-pub fn as_scalar(check: ScalarCheck) -> Verdict
-    ensures { result ≡ scalar_of check }
-{
-    let refusal = check.refusal();
-    Verdict {
-        refusal: refusal.number(),
-        carried: refusal.carried(),
+impl<T: Copy> From<Result<T, Refusal>> for Verdict {
+    ghost from_gives = { IsVerdict };
+
+    fn from(answer: Result<T, Refusal>) -> Verdict {
+        match answer {
+            Ok(_) => Verdict {
+                refusal: 0,
+                carried: 0,
+            },
+            Err(r) => Verdict {
+                refusal: r.number(),
+                carried: r.carried(),
+            },
+        }
     }
 }
 
-pub fn as_yes_no(a: Answer) -> YesNo
-    ensures { result ≡ yes_no_of a }
-{
-    let r = a.refusal();
-    YesNo {
-        refusal: r.number(),
-        carried: r.carried(),
-        yes: a.yes(),
+impl From<Result<bool, Refusal>> for YesNo {
+    ghost from_gives = { IsYesNo };
+
+    fn from(answer: Result<bool, Refusal>) -> YesNo {
+        let Verdict { refusal, carried } = answer.into();
+        YesNo {
+            refusal,
+            carried,
+            yes: answer.unwrap_or(false),
+        }
     }
 }
 
-pub fn as_length(l: Length) -> Count
-    ensures { result ≡ length_of l }
-{
-    let r = l.refusal();
-    Count {
-        refusal: r.number(),
-        carried: r.carried(),
-        count: l.units(),
+impl From<Result<usize, Refusal>> for Count {
+    ghost from_gives = { IsCount };
+
+    fn from(answer: Result<usize, Refusal>) -> Count {
+        let Verdict { refusal, carried } = answer.into();
+        Count {
+            refusal,
+            carried,
+            count: answer.unwrap_or(0),
+        }
     }
 }
 
-pub fn as_ranges(l: ListCheck) -> Count
-    ensures { result ≡ ranges_of l }
-{
-    let r = l.refusal();
-    Count {
-        refusal: r.number(),
-        carried: r.carried(),
-        count: l.ranges(),
+impl From<Result<Hit, Refusal>> for Sought {
+    ghost from_gives = { IsSought };
+
+    fn from(answer: Result<Hit, Refusal>) -> Sought {
+        let Verdict { refusal, carried } = answer.into();
+        let Hit { yes, read } = answer.unwrap_or(Hit {
+            yes: false,
+            read: 0,
+        });
+        Sought {
+            refusal,
+            carried,
+            read,
+            yes,
+        }
     }
 }
 
-pub fn as_checked(check: Checked) -> Verdict
-    ensures { result ≡ checked_of check }
-{
-    let refused = check.refusal();
-    Verdict {
-        refusal: refused.number(),
-        carried: refused.carried(),
+impl From<Result<Packed, Refusal>> for Sizes {
+    ghost from_gives = { IsSizes };
+
+    fn from(answer: Result<Packed, Refusal>) -> Sizes {
+        let Verdict { refusal, carried } = answer.into();
+        let Packed { headers, offsets } = answer.unwrap_or(Packed {
+            headers: 0,
+            offsets: 0,
+        });
+        Sizes {
+            refusal,
+            carried,
+            headers,
+            offsets,
+        }
     }
 }
 
-pub fn as_sought(f: Found) -> Sought
-    ensures { result ≡ sought_of f }
-{
-    let r = f.refusal();
-    Sought {
-        refusal: r.number(),
-        carried: r.carried(),
-        read: f.read(),
-        yes: f.yes(),
-    }
-}
+impl From<Result<Mapping, Refusal>> for Mapped {
+    ghost from_gives = { IsMapped };
 
-pub fn as_sizes(p: Packed) -> Sizes
-    ensures { result ≡ sizes_of p }
-{
-    let r = p.refusal();
-    Sizes {
-        refusal: r.number(),
-        carried: r.carried(),
-        headers: p.headers(),
-        offsets: p.offsets(),
-    }
-}
-
-pub fn as_numbers(u: Unpacked) -> Count
-    ensures { result ≡ numbers_of u }
-{
-    let r = u.refusal();
-    Count {
-        refusal: r.number(),
-        carried: r.carried(),
-        count: u.numbers(),
-    }
-}
-
-pub fn as_mapped(m: Mapping) -> Mapped
-    ensures { result ≡ mapped_of m }
-{
-    let r = m.refusal;
-    // One by one: read as a whole, they would wait for the three single writes just made.
-    let to = [m.to[0], m.to[1], m.to[2]];
-    Mapped {
-        refusal: r.number(),
-        count: m.count,
-        to,
+    fn from(answer: Result<Mapping, Refusal>) -> Mapped {
+        match answer {
+            // One by one: read as a whole, they would wait for the three single writes just made.
+            Ok(m) => Mapped {
+                refusal: 0,
+                count: m.count,
+                to: [m.to[0], m.to[1], m.to[2]],
+            },
+            Err(refusal) => Mapped {
+                refusal: refusal.number(),
+                count: 0,
+                to: [0, 0, 0],
+            },
+        }
     }
 }

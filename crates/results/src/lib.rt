@@ -1,11 +1,11 @@
 // What crosses the C boundary: each answer as plain numbers in a struct that C can hold.
 #![tactic(auto)]
 
-pub mod crossing;
+mod crossing;
 
 // Accepted where refusal is 0; else the refusal's number and what it carries.
 #[repr(C)]
-#[derive(Clone, Copy)]
+#[derive(Clone, Copy, Debug, PartialEq, Eq)]
 pub struct Verdict {
     pub refusal: u32,
     pub carried: usize,
@@ -13,7 +13,7 @@ pub struct Verdict {
 
 // Yes or no; where refusal is not 0, its number, what it carries, and no.
 #[repr(C)]
-#[derive(Clone, Copy)]
+#[derive(Clone, Copy, Debug, PartialEq, Eq)]
 pub struct YesNo {
     pub refusal: u32,
     pub carried: usize,
@@ -22,7 +22,7 @@ pub struct YesNo {
 
 // How many; where refusal is not 0, its number, what it carries, and 0.
 #[repr(C)]
-#[derive(Clone, Copy)]
+#[derive(Clone, Copy, Debug, PartialEq, Eq)]
 pub struct Count {
     pub refusal: u32,
     pub carried: usize,
@@ -31,7 +31,7 @@ pub struct Count {
 
 // Whether a number is in a table, and how many offsets of its run were read; where refusal is not 0, no and 0.
 #[repr(C)]
-#[derive(Clone, Copy)]
+#[derive(Clone, Copy, Debug, PartialEq, Eq)]
 pub struct Sought {
     pub refusal: u32,
     pub carried: usize,
@@ -41,7 +41,7 @@ pub struct Sought {
 
 // The lengths of a packed table; where refusal is not 0, zeros.
 #[repr(C)]
-#[derive(Clone, Copy)]
+#[derive(Clone, Copy, Debug, PartialEq, Eq)]
 pub struct Sizes {
     pub refusal: u32,
     pub carried: usize,
@@ -51,7 +51,7 @@ pub struct Sizes {
 
 // One to three mapped numbers, those past count 0; where refusal is not 0, zeros.
 #[repr(C)]
-#[derive(Clone, Copy)]
+#[derive(Clone, Copy, Debug, PartialEq, Eq)]
 pub struct Mapped {
     pub refusal: u32,
     pub count: usize,

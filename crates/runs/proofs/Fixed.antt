@@ -1,6 +1,6 @@
 -- Any two results that a promise of this crate allows are equal. Assumes nothing.
 use mathlib.Core.Path.{◌≡◌, ◌∙◌, sym}
-use Rattle.runs.proofs.check.Reads as check
+use Rattle.runs.proofs.Plane.check.Reads as check
 use Rattle.runs.proofs.length_list.starts_yes.Reads as starts_yes
 use Rattle.runs.proofs.singletons.is_singleton.Reads as is_singleton
 

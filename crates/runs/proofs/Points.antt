@@ -11,7 +11,8 @@ use lib.ListN.{take, drop}
 use lib.Dec.{ltb, eqb}
 use Rattle.scalar.specs.Scalars.{between}
 use Rattle.sets.specs.Lists.{holds}
-use Rattle.sets.proofs.Decide.{split, same, and_left, and_right, and_both}
+use Rattle.std.proofs.lemmas.Bool.{and_from, and_parts, cases_eq}
+use Rattle.sets.proofs.Decide.{split}
 use Rattle.runs.specs.Singletons.{among, listed}
 
 -- each low byte with the high byte h before it, as a range of one, in front of a list
@@ -34,8 +35,8 @@ unfolding bytes
 bytes_parts zero lows b = (refl, b)
 bytes_parts (suc c) [] b = (refl, refl)
 bytes_parts (suc c) (l ∷ lows) b =
-    let r = bytes_parts c lows (and_right (ltb l 256) (bytes lows) b) in
-    (and_both (ltb l 256) (bytes (take c lows)) (and_left (ltb l 256) (bytes lows) b) r.0, r.1)
+    let r = bytes_parts c lows (and_parts (ltb l 256) (bytes lows) b).1 in
+    (and_from (ltb l 256) (bytes (take c lows)) (and_parts (ltb l 256) (bytes lows) b).0 r.0, r.1)
 
 module _ (x : ℕ) where
   off : (s : ℕ) → (s ≡ x → ⊥) → between s s x ≡ false
@@ -58,9 +59,9 @@ module _ (x : ℕ) where
       ⊎_elim
       (λ f. rw (eq-eqb h (x / 256) e, eq-eqb l (x % 256) f) (on (h * 256 + l) (omega arith)))
       (λ f. rw (eq-eqb h (x / 256) e, ne_eqb l (x % 256) f) (off (h * 256 + l) (λ q. f (omega arith))))
-      (same l (x % 256)))
+      (cases_eq l (x % 256)))
       (λ e. rw (ne_eqb h (x / 256) e) (off (h * 256 + l) (λ q. e (omega arith))))
-      (same h (x / 256))
+      (cases_eq h (x / 256))
 
   regroup : (a b c r : Bool) → (a && b || (a && c || r)) ≡ (a && (b || c) || r)
   regroup true true c r = refl
@@ -72,7 +73,7 @@ module _ (x : ℕ) where
   unfolding points holds among bytes
   points_hold h [] rest b = sym (rw (and-false (eqb h (x / 256))) refl)
   points_hold h (l ∷ lows) rest b =
-      rw (point h l (ltb-true l 256 (and_left (ltb l 256) (bytes lows) b)), points_hold h lows rest (and_right (ltb l 256) (bytes lows) b))
+      rw (point h l (ltb-true l 256 (and_parts (ltb l 256) (bytes lows) b).0), points_hold h lows rest (and_parts (ltb l 256) (bytes lows) b).1)
       (regroup (eqb h (x / 256)) (eqb l (x % 256)) (among (x % 256) lows) (holds rest x))
 
   pub singles_hold : (highs counts lows : List ℕ) → bytes lows ≡ true

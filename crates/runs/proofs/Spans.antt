@@ -10,7 +10,8 @@ use borrow.Author.Tests.{ltb-true, leb-true, le-leb, lt-leb}
 use lib.Dec.{leb, ltb}
 use Rattle.scalar.specs.Scalars.{between}
 use Rattle.sets.specs.Lists.{holds}
-use Rattle.sets.proofs.Decide.{split, and_left, and_right}
+use Rattle.std.proofs.lemmas.Bool.{and_parts}
+use Rattle.sets.proofs.Decide.{split}
 
 -- every range moved up by d
 unfoldable pub shift : ℕ → List ℕ → List ℕ
@@ -57,7 +58,7 @@ module _ (x low end : ℕ) (out : (x < low) ⊎ (end ≤ x)) where
   none_outside [] w = refl
   none_outside (a ∷ []) w = refl
   none_outside (a ∷ (b ∷ l)) w =
-      let f = and_left (leb low a && ltb b end) (within low end l) w in
+      let f = (and_parts (leb low a && ltb b end) (within low end l) w).0 in
       rw
-      (not_in a b (leb-true low a (and_left (leb low a) (ltb b end) f)) (ltb-true b end (and_right (leb low a) (ltb b end) f)), none_outside l (and_right (leb low a && ltb b end) (within low end l) w))
+      (not_in a b (leb-true low a (and_parts (leb low a) (ltb b end) f).0) (ltb-true b end (and_parts (leb low a) (ltb b end) f).1), none_outside l (and_parts (leb low a && ltb b end) (within low end l) w).1)
       refl

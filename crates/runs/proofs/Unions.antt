@@ -10,7 +10,8 @@ use borrow.Author.Tests.{leb-true, eqb-true, le-leb, lt-leb}
 use lib.Dec.{leb, eqb}
 use Rattle.scalar.specs.Scalars.{between}
 use Rattle.sets.specs.Lists.{holds}
-use Rattle.sets.proofs.Decide.{split, and_left, and_right}
+use Rattle.std.proofs.lemmas.Bool.{and_parts}
+use Rattle.sets.proofs.Decide.{split}
 
 -- the range from a to b put before the first range that starts above it; `rest` goes on from there
 unfoldable pub before : ℕ → ℕ → (List ℕ → List ℕ) → List ℕ → List ℕ
@@ -83,9 +84,9 @@ module _ (x : ℕ) where
   join_on_holds a b (c ∷ (d ∷ l)) =
       either (eqb c (b + 1) && (leb a c && leb c d)) (join_on a d l) (a ∷ (b ∷ join_on c d l))
       (λ e.
-      let f = and_right (eqb c (b + 1)) (leb a c && leb c d) e in
-      let k = eqb-true c (b + 1) (and_left (eqb c (b + 1)) (leb a c && leb c d) e) in
-      let t = touching a b c d k (leb-true a c (and_left (leb a c) (leb c d) f)) (leb-true c d (and_right (leb a c) (leb c d) f)) in
+      let f = (and_parts (eqb c (b + 1)) (leb a c && leb c d) e).1 in
+      let k = eqb-true c (b + 1) (and_parts (eqb c (b + 1)) (leb a c && leb c d) e).0 in
+      let t = touching a b c d k (leb-true a c (and_parts (leb a c) (leb c d) f).0) (leb-true c d (and_parts (leb a c) (leb c d) f).1) in
       join_on_holds a d l ∙ rw t (sym (regroup (between a b x) (between c d x) (holds l x))))
       (rw (join_on_holds c d l) refl)
 

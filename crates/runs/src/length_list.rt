@@ -1,31 +1,19 @@
-// Length lists: a yes run, a no run, a yes run ..
+// Length lists: a yes run, a no run, a yes run .. The place stands beside the bytes, and two functions call each other, since document
+// 01 names that form.
 ghost use Rattle.std.specs.Prelude.{◌≡◌, true, false, drop};
 ghost use Rattle.runs.specs.Lengths.{length_at, lengths, kind_at};
 
-// The length that stands at a place, and the place after it.
-#[derive(Clone, Copy)]
-enum Length {
-    Of(u16, usize),
-    End,
-}
-
-// A high byte with no next byte is the end of the list.
-fn length_at(bytes: &[u8], at: usize) -> Length
+// The length that stands at a place, and the place after it. A high byte with no next byte is the end of the list.
+fn length_at(bytes: &[u8], at: usize) -> Option<(u16, usize)>
     ensures { result ≡ length_at bytes.now at }
 {
-    if bytes.len() <= at {
-        return Length::End;
-    }
-    let b = bytes[at] as u16;
+    let b = u16::from(*bytes.get(at)?);
     let next = at + 1;
     if b < 0x80 {
-        return Length::Of(b, next);
+        return Some((b, next));
     }
-    if bytes.len() <= next {
-        return Length::End;
-    }
-    let low = bytes[next] as u16;
-    Length::Of((b - 0x80) * 256 + low, next + 1)
+    let low = u16::from(*bytes.get(next)?);
+    Some(((b - 0x80) * 256 + low, next + 1))
 }
 
 // Whether x is yes in the runs from `at` on, the first of which is a yes run.
@@ -33,8 +21,7 @@ fn length_at(bytes: &[u8], at: usize) -> Length
 fn yes_run(bytes: &[u8], at: usize, x: u16) -> bool
     ensures { result ≡ kind_at true (lengths (drop at bytes.now)) x }
 {
-    let length = length_at(bytes, at);
-    let Length::Of(len, next) = length else {
+    let Some((len, next)) = length_at(bytes, at) else {
         return true;
     };
     if x < len {
@@ -48,8 +35,7 @@ fn yes_run(bytes: &[u8], at: usize, x: u16) -> bool
 fn no_run(bytes: &[u8], at: usize, x: u16) -> bool
     ensures { result ≡ kind_at false (lengths (drop at bytes.now)) x }
 {
-    let length = length_at(bytes, at);
-    let Length::Of(len, next) = length else {
+    let Some((len, next)) = length_at(bytes, at) else {
         return false;
     };
     if x < len {

@@ -8,12 +8,21 @@ ghost use Rattle.runs.specs.Tables.{printable_by};
 mod length_list;
 mod singletons;
 
-// Whether the tables call x printable: a listed singleton is no, else the length list decides, starting with yes.
-pub fn check(x: u16, highs: &[u8], counts: &[u8], lows: &[u8], normal: &[u8]) -> bool
-    ensures { result ≡ printable_by highs.now counts.now lows.now normal.now x }
-{
-    if singletons::is_singleton(highs, counts, lows, x) {
-        return false;
+// A plane's tables. High bytes and counts stay two lists, not one of pairs: `printable_by` answers for lists of unlike lengths.
+#[derive(Clone, Copy)]
+pub struct Plane<'a> {
+    pub highs: &'a [u8],
+    pub counts: &'a [u8],
+    pub lows: &'a [u8],
+    pub normal: &'a [u8],
+}
+
+impl<'a> Plane<'a> {
+    // Whether the tables call x printable: a listed singleton is no, else the length list decides, starting with yes.
+    pub fn check(&self, x: u16) -> bool
+        ensures { result ≡ printable_by self.now.highs.now self.now.counts.now self.now.lows.now self.now.normal.now x }
+    {
+        !singletons::is_singleton(self.highs, self.counts, self.lows, x)
+            && length_list::starts_yes(self.normal, x)
     }
-    length_list::starts_yes(normal, x)
 }

@@ -1,59 +1,20 @@
 // Singletons: pairs of a high byte and how many of the next low bytes belong to it.
-ghost use Rattle.std.specs.Prelude.{◌≡◌, ◌&&◌, ◌≤◌, ◌/◌, ◌%◌, eqb, length};
-ghost use Rattle.runs.specs.Singletons.{among, listed, up_to};
+ghost use Rattle.std.specs.Prelude.{◌≡◌, ◌/◌, ◌%◌};
+ghost use Rattle.runs.specs.Singletons.{listed};
 
-fn among(lows: &[u8], low: u8) -> bool
-    ensures { result ≡ among low lows.now }
-{
-    let mut i = 0;
-    while i < lows.len() {
-        if lows[i] == low {
-            return true;
-        }
-        i += 1;
-    }
-    false
-}
-
-// Whether a pair of this high byte, with these low bytes, lists the byte pair asked for.
-fn pair_lists(of: u8, lows: &[u8], high: u8, low: u8) -> bool
-    ensures { result ≡ (eqb of high && among low lows.now) }
-{
-    if of == high {
-        return among(lows, low);
-    }
-    false
-}
-
-// Where the pair's low bytes end: a count that runs past the end takes what is left.
-fn end_of(start: usize, count: u8, len: usize) -> usize
-    requires { start ≤ len }
-    ensures { (result ≡ up_to start count len) × (start ≤ result) × (result ≤ len) }
-{
-    let count = count as usize;
-    if count <= len - start {
-        return start + count;
-    }
-    len
-}
-
+// Whether the pairs list x. A count that runs past the low bytes takes what is left.
 pub fn is_singleton(highs: &[u8], counts: &[u8], lows: &[u8], x: u16) -> bool
     ensures { result ≡ listed highs.now counts.now lows.now (x / 256) (x % 256) }
 {
     let high = (x / 256) as u8;
     let low = (x % 256) as u8;
-    let mut start: usize = 0;
-    let mut k = 0;
-    while k < highs.len() {
-        if counts.len() <= k {
-            return false;
-        }
-        let end = end_of(start, counts[k], lows.len());
-        if pair_lists(highs[k], &lows[start..end], high, low) {
+    let mut rest = lows;
+    for (&of, &count) in highs.iter().zip(counts) {
+        let (own, after) = rest.split_at(usize::from(count).min(rest.len()));
+        if of == high && own.contains(&low) {
             return true;
         }
-        start = end;
-        k += 1;
+        rest = after;
     }
     false
 }

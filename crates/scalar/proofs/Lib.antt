@@ -1,2 +1,5 @@
 pub mod Answers
 mod Fixed
+pub mod Same
+pub mod Inside
+pub mod Points

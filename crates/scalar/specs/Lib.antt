@@ -1,2 +1,5 @@
 pub mod Refusals
 pub mod Scalars
+pub mod Values
+pub mod Points
+pub mod Texts

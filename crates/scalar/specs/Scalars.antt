@@ -1,11 +1,7 @@
 -- Scalar values: the numbers to 0x10FFFF that are no surrogates. Assumes nothing: these are definitions.
-use Rattle.std.specs.Prelude.{ℕ, Bool, true, false, cond, ◌&&◌, ltb, leb}
+use Rattle.std.specs.Prelude.{ℕ, Bool, true, false, cond, ◌&&◌, ltb, leb, Result, Ok, Err}
 use Rattle.scalar.specs.declared.refusal.Refusal.{Refusal}
 use Rattle.scalar.specs.declared.refusal.Refusal.TheVariants as refusal
-use Rattle.scalar.specs.declared.ScalarCheck.{ScalarCheck}
-use Rattle.scalar.specs.declared.ScalarCheck.TheVariants as check
-use Rattle.scalar.specs.declared.Answer.{Answer}
-use Rattle.scalar.specs.declared.Answer.TheVariants as answer
 
 -- x lies from low to high, both ends counted
 abbrev pub between : ℕ → ℕ → ℕ → Bool
@@ -19,28 +15,13 @@ scalar_else n above surrogate good = cond (ltb 0x10FFFF n) above (cond (between 
 abbrev pub is_scalar : ℕ → Bool
 is_scalar n = scalar_else n false false true
 
--- a scalar value, or refusal 1, then 2
-abbrev pub checked : ℕ → ScalarCheck
-checked n =
-    scalar_else n (check.Refused refusal.AboveMax) (check.Refused refusal.Surrogate) (check.Valid (record { value = n }))
-
--- the refusal of a check, None where there is none
-abbrev pub refusal_of : ScalarCheck → Refusal
-refusal_of (check.Refused r) = r
-refusal_of (check.Valid s) = refusal.None
+-- a number that is a scalar value, or refusal 1, then 2
+abbrev pub checked : ℕ → Result ℕ Refusal
+checked n = scalar_else n (Err refusal.AboveMax) (Err refusal.Surrogate) (Ok n)
 
 -- the answer of a yes-or-no entry: refusal 1, then 2, else what f says of the number
-abbrev pub answered : (ℕ → Bool) → ℕ → Answer
-answered f n = scalar_else n (answer.Refused refusal.AboveMax) (answer.Refused refusal.Surrogate) (answer.Is (f n))
-
--- the paper's number and values of a yes-or-no answer
-abbrev pub answer_refusal : Answer → Refusal
-answer_refusal (answer.Refused r) = r
-answer_refusal (answer.Is b) = refusal.None
-
-abbrev pub answer_yes : Answer → Bool
-answer_yes (answer.Refused r) = false
-answer_yes (answer.Is b) = b
+abbrev pub answered : (ℕ → Bool) → ℕ → Result Bool Refusal
+answered f n = scalar_else n (Err refusal.AboveMax) (Err refusal.Surrogate) (Ok (f n))
 
 -- the ASCII ranges that the entries answer by themselves
 abbrev pub ascii_digit : ℕ → Bool

@@ -11,7 +11,8 @@ use Rattle.scalar.specs.Scalars.{between}
 use Rattle.sets.specs.Lists.{ranges, bad_at, holds}
 use Rattle.sets.specs.Orders.{Follows, Under, Bounded}
 use Rattle.sets.specs.Demand.{first, last, Listed, Held}
-use Rattle.sets.proofs.Decide.{and_left, and_right, or_split, or_true}
+use Rattle.std.proofs.lemmas.Bool.{and_parts, or_cases}
+use Rattle.std.proofs.Math.Bool.{or-true}
 use Rattle.sets.proofs.Good.{Good, pair_good}
 
 -- range k of what follows the first range is range k + 1 of the list
@@ -101,7 +102,7 @@ module _ (x : ℕ) where
 
   held_on : (a b : ℕ) (l : List ℕ) → holds l x ≡ true → holds (a ∷ (b ∷ l)) x ≡ true
   unfolding holds
-  held_on a b l h = rw h (or_true (between a b x))
+  held_on a b l h = rw h (or-true (between a b x))
 
   says : (l : List ℕ) → holds l x ≡ true → Held l x
   unfolding holds
@@ -113,8 +114,8 @@ module _ (x : ℕ) where
       record {
         index = 0;
         range = omega arith;
-        from_first = leb-true a x (and_left (leb a x) (leb x b) t);
-        to_last = leb-true x b (and_right (leb a x) (leb x b) t);
+        from_first = leb-true a x (and_parts (leb a x) (leb x b) t).0;
+        to_last = leb-true x b (and_parts (leb a x) (leb x b) t).1;
       })
       (λ t.
       let z = says l t in
@@ -124,7 +125,7 @@ module _ (x : ℕ) where
         from_first = rw (first_on a b l z.index) z.from_first;
         to_last = rw (last_on a b l z.index) z.to_last;
       })
-      (or_split (between a b x) (holds l x) h)
+      (or_cases (between a b x) (holds l x) h)
 
   said : (l : List ℕ) (k : ℕ) → k < ranges l → first l k ≤ x → x ≤ last l k → holds l x ≡ true
   said [] k m h t = absurd (omega arith)

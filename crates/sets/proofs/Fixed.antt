@@ -3,8 +3,6 @@ use Rattle.std.specs.Prelude.{◌≡◌}
 use mathlib.Core.Path.{◌∙◌, sym}
 use Rattle.sets.proofs.check_list.Reads as check_list
 use Rattle.sets.proofs.search_list.Reads as search_list
-use Rattle.sets.proofs.ListCheck.refusal.Reads as list_refusal
-use Rattle.sets.proofs.ListCheck.ranges.Reads as list_ranges
 use Rattle.sets.proofs.kernel.first_bad.Reads as first_bad
 use Rattle.sets.proofs.kernel.list_holds.Reads as list_holds
 
@@ -13,12 +11,6 @@ check_list_fixed κs a r r' s s' p q = p ∙ sym q
 
 search_list_fixed : (κs : _) (a : _) (r r' : _) (s s' : _) → search_list.Post κs a r s → search_list.Post κs a r' s' → r ≡ r'
 search_list_fixed κs a r r' s s' p q = p ∙ sym q
-
-list_refusal_fixed : (κs : _) (a : _) (r r' : _) (s s' : _) → list_refusal.Post κs a r s → list_refusal.Post κs a r' s' → r ≡ r'
-list_refusal_fixed κs a r r' s s' p q = p ∙ sym q
-
-list_ranges_fixed : (κs : _) (a : _) (r r' : _) (s s' : _) → list_ranges.Post κs a r s → list_ranges.Post κs a r' s' → r ≡ r'
-list_ranges_fixed κs a r r' s s' p q = p ∙ sym q
 
 first_bad_fixed : (κs : _) (a : _) (r r' : _) (s s' : _) → first_bad.Post κs a r s → first_bad.Post κs a r' s' → r ≡ r'
 first_bad_fixed κs a r r' s s' p q = p ∙ sym q

@@ -7,7 +7,8 @@ use native.Mathlib.Omega.{arith}
 use borrow.Author.Tests.{le-leb, lt-leb, leb-true}
 use Rattle.sets.specs.Boundaries.{count, odd, member}
 use Rattle.sets.specs.Lists.{edges, holds}
-use Rattle.sets.proofs.Decide.{split, and_left, and_right}
+use Rattle.std.proofs.lemmas.Bool.{and_parts}
+use Rattle.sets.proofs.Decide.{split}
 
 -- boundaries that do not fall, from p on
 unfoldable pub rising : ℕ → List ℕ → Bool
@@ -16,7 +17,7 @@ rising p (b ∷ bs) = leb p b && rising b bs
 
 pub rising_on : (p b : ℕ) (bs : List ℕ) → rising p (b ∷ bs) ≡ true → (p ≤ b) × (rising b bs ≡ true)
 unfolding rising
-rising_on p b bs r = (leb-true p b (and_left (leb p b) (rising b bs) r), and_right (leb p b) (rising b bs) r)
+rising_on p b bs r = (leb-true p b (and_parts (leb p b) (rising b bs) r).0, (and_parts (leb p b) (rising b bs) r).1)
 
 module _ (x : ℕ) where
   pub count_none : count x [] ≡ 0

@@ -7,7 +7,8 @@ use mathlib.Core.Logic.{⊎_elim}
 use native.Mathlib.Omega.{arith}
 use borrow.Author.Tests.{le-leb, lt-leb}
 use Rattle.sets.specs.Lists.{ranges, bad_at, holds}
-use Rattle.sets.proofs.Decide.{split, not_both}
+use Rattle.std.proofs.lemmas.Bool.{both_ways}
+use Rattle.sets.proofs.Decide.{split}
 use Rattle.sets.proofs.Good.{Good, pair_good, rises}
 use Rattle.sets.proofs.Members.{none_below}
 
@@ -56,7 +57,7 @@ nothing x = refl
 
 -- one list holds a number that the other does not
 apart : {A : Type 0} (l m : List ℕ) (x : ℕ) → holds l x ≡ holds m x → holds l x ≡ true → holds m x ≡ false → A
-apart l m x s t f = not_both (sym s ∙ t) f
+apart l m x s t f = absurd (both_ways _ f (sym s ∙ t))
 
 pub unique : (i low : ℕ) (l m : List ℕ) → Fine i low l → Fine i low m → ((x : ℕ) → x ≤ 0x10FFFF → holds l x ≡ holds m x) → l ≡ m
 unique i low [] [] f g s = refl

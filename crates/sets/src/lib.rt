@@ -2,74 +2,40 @@
 #![tactic(auto)]
 
 ghost use Rattle.std.specs.Prelude.{◌≡◌};
-ghost use Rattle.sets.specs.Answers.{list_checked, list_searched, list_refusal, list_ranges};
+ghost use Rattle.sets.specs.Answers.{list_checked, list_searched};
 
 pub mod kernel;
 
 use kernel::{first_bad, list_holds};
-use scalar::{Answer, Refusal, Scalar};
+use scalar::{CodePoint, Refusal};
 
 // The most ranges that a list may have.
 pub const MAX_RANGES: usize = 1023;
 
-// What the check of a list answers: how many ranges it has.
-#[derive(Clone, Copy)]
-pub enum ListCheck {
-    Ranges(usize),
-    Refused(Refusal),
-}
-
-impl ListCheck {
-    // The refusal of a check, None where there is none: what a let-else returns.
-    pub fn refusal(self) -> Refusal
-        ensures { result ≡ list_refusal self }
-    {
-        match self {
-            ListCheck::Refused(r) => r,
-            ListCheck::Ranges(_) => Refusal::None,
-        }
-    }
-
-    // How many ranges an accepted list has; 0 for a refused one.
-    pub fn ranges(self) -> usize
-        ensures { result ≡ list_ranges self }
-    {
-        match self {
-            ListCheck::Refused(_) => 0,
-            ListCheck::Ranges(n) => n,
-        }
-    }
-}
-
-// Whether a flat list is one of ranges in order, none touching another; refuses 3, 4, then 5.
+// How many ranges a list has whose ranges are in order, none touching another; refuses 3, 4, then 5.
 #[tactic(auto, unfolding(crate::specs::Answers::list_else))]
-pub fn check_list(list: &[u32]) -> ListCheck
+pub fn check_list(list: &[u32]) -> Result<usize, Refusal>
     ensures { result ≡ list_checked list.now }
 {
     if list.len() % 2 != 0 {
-        return ListCheck::Refused(Refusal::OddList);
+        return Err(Refusal::OddList);
     }
     let n = list.len() / 2;
     if n > MAX_RANGES {
-        return ListCheck::Refused(Refusal::TooManyRanges);
+        return Err(Refusal::TooManyRanges);
     }
     let bad = first_bad(list);
     if bad < n {
-        return ListCheck::Refused(Refusal::BadRange(bad));
+        return Err(Refusal::BadRange(bad));
     }
-    ListCheck::Ranges(n)
+    Ok(n)
 }
 
 // Whether some range of the list holds x; refuses 3, 4, 5, then 1. Surrogates are numbers like any other.
-pub fn search_list(list: &[u32], x: u32) -> Answer
+pub fn search_list(list: &[u32], x: u32) -> Result<bool, Refusal>
     ensures { result ≡ list_searched list.now x }
 {
-    let check = check_list(list);
-    let ListCheck::Ranges(_) = check else {
-        return Answer::Refused(check.refusal());
-    };
-    if x > Scalar::MAX {
-        return Answer::Refused(Refusal::AboveMax);
-    }
-    Answer::Is(list_holds(list, x))
+    check_list(list)?;
+    let point = CodePoint::new(x)?;
+    Ok(list_holds(list, point.value))
 }

@@ -6,7 +6,8 @@ use native.Mathlib.Omega.{arith}
 use borrow.Author.Tests.{le-leb, lt-leb, eq-eqb, ne_eqb, leb-true}
 use Rattle.skip.specs.Headers.{prefix_sum, run_end}
 use Rattle.skip.specs.Table.{walk}
-use Rattle.sets.proofs.Decide.{split, same, and_left, and_right}
+use Rattle.std.proofs.lemmas.Bool.{and_parts, cases_eq}
+use Rattle.sets.proofs.Decide.{split}
 use Rattle.sets.proofs.Members.{count_in, count_out}
 use Rattle.sets.specs.Boundaries.{count}
 use Rattle.skip.specs.Rules.{W5}
@@ -26,7 +27,7 @@ module _ (n i at h o : ℕ) (hs os : List ℕ) where
   unfolding W5
   rule_last e w =
       let v : (leb at (prefix_sum h) && W5 n (i + 1) (prefix_sum h) hs os) ≡ true = simp (eq-eqb _ _ e) at w in
-      (leb-true at (prefix_sum h) (and_left (leb at (prefix_sum h)) _ v), and_right (leb at (prefix_sum h)) _ v)
+      (leb-true at (prefix_sum h) (and_parts (leb at (prefix_sum h)) _ v).0, (and_parts (leb at (prefix_sum h)) _ v).1)
 
   pub rule_on : (i + 1 ≡ run_end n hs → ⊥) → W5 n i at (h ∷ hs) (o ∷ os) ≡ true → W5 n (i + 1) (at + o) (h ∷ hs) os ≡ true
   unfolding W5
@@ -87,7 +88,7 @@ module _ (x : ℕ) where
         let v = rule_on n i at h o hs os e w in
         let u : x < at + o = omega arith in
         ap (count x) (walk_on n i at h o hs os e) ∙ count_out x _ _ u ∙ above os (i + 1) (at + o) (h ∷ hs) v u)
-        (same (i + 1) (run_end n hs))
+        (cases_eq (i + 1) (run_end n hs))
 
     module _ (h : ℕ) (hs : List ℕ) where
       -- the sum so far in a run is at most the run's

@@ -1,5 +1,5 @@
 -- What the search computes is what a table means. Assumes nothing.
-use Rattle.std.specs.Prelude.{◌≡◌, ℕ, zero, suc, ◌+◌, ◌-◌, ◌<◌, ◌≤◌, min, true, ltb, List, [], ◌∷◌, length, get_or, take, drop}
+use Rattle.std.specs.Prelude.{◌≡◌, ℕ, zero, suc, ◌+◌, ◌-◌, ◌<◌, ◌≤◌, min, true, ltb, None, List, [], ◌∷◌, length, get_or, take, drop}
 use mathlib.Core.Path.{◌∙◌, sym, refl, ap}
 use native.Mathlib.Omega.{arith}
 use native.Mathlib.Nat.{min-eq_left, min-eq_right}
@@ -10,17 +10,17 @@ use lib.Seq.{slice, drop-drop, take-nil}
 use Rattle.skip.specs.Headers.{start_index, prefix_sum, run_end}
 use Rattle.skip.specs.Table.{walk, reads_from, boundaries, reads}
 use Rattle.sets.specs.Boundaries.{count, odd, member}
-use Rattle.skip.specs.Rules.{W1, W2, W3, W4, W5, broken}
+use Rattle.skip.specs.Rules.{sized, W1, W2, W3, W4, W5, broken}
 use Rattle.skip.specs.Seek.{Run, prev, upto}
-use Rattle.sets.proofs.Decide.{and_left, and_right}
-use Rattle.skip.proofs.Lowest5.{all}
+use Rattle.std.proofs.lemmas.Bool.{and_parts}
+use Rattle.skip.proofs.Lowest5.{all, size_low}
 use Rattle.skip.proofs.Meaning.{pass, inside}
 
 pub starts_on : (n h : ℕ) (hs : List ℕ) → W3 n (h ∷ hs) ≡ true → (start_index h < run_end n hs) × (W3 n hs ≡ true)
 unfolding W3
 starts_on n h hs w =
     let test = ltb (start_index h) (run_end n hs) in
-    (ltb-true (start_index h) (run_end n hs) (and_left test _ w), and_right test _ w)
+    (ltb-true (start_index h) (run_end n hs) (and_parts test _ w).0, (and_parts test _ w).1)
 
 pub starts_end : (n : ℕ) (hs : List ℕ) → W3 n hs ≡ true → run_end n hs ≤ n
 starts_end n [] w = omega arith
@@ -131,7 +131,7 @@ pub record Answered (hs os : List ℕ) (x b e q : ℕ) : Type 0 where
   pub counted : count x (boundaries hs os) ≡ b + upto x q (slice b (e - 1) os)
   pub read : reads hs os x ≡ min (e - b - 1) (upto x q (slice b (e - 1) os) + 1)
 
-pub answered : (hs os : List ℕ) (x k : ℕ) → broken hs os ≡ 0 → Run hs x k
+pub answered : (hs os : List ℕ) (x k : ℕ) → broken hs os ≡ None → Run hs x k
     → Answered hs os x (start_index (get_or hs k 0)) (run_end (length os) (drop (k + 1) hs)) (prev 0 hs k)
 answered [] os x k b r = let q = r.is in absurd (omega arith)
 answered (h ∷ hs) os x k b r =
@@ -154,3 +154,9 @@ module _ (hs os : List ℕ) (x b e q i : ℕ) (a : Answered hs os x b e q) (is :
 
   pub ran_out : i ≡ e - 1 → e - 1 - b ≡ reads hs os x
   ran_out l = sym (a.read ∙ min-eq_left (omega arith) ∙ omega arith)
+
+-- what a search asks of the sums of a table that breaks no rule
+pub kept : (hs os : List ℕ) → broken hs os ≡ None → (W4 0 hs ≡ true) × (0 < length hs)
+kept hs os b =
+    let w = all (W1 hs os) (W2 hs) (W3 (length os) hs) (W4 0 hs) (W5 (length os) 0 0 hs os) b in
+    (w.3, size_low (length hs) (and_parts (sized (length hs)) (sized (length os)) w.0).0)

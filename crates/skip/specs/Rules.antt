@@ -1,6 +1,8 @@
 -- The rules W1 to W5 of a table, each a test, and the lowest that is broken. Stated.antt has the same rules in the
 -- document's words. Assumes nothing: these are definitions.
-use Rattle.std.specs.Prelude.{ℕ, ◌+◌, Bool, true, false, cond, ◌&&◌, List, [], ◌∷◌, length, ◌==◌, nat_le, nat_lt, slice_index}
+use Rattle.std.specs.Prelude.{ℕ, ◌+◌, Bool, true, false, cond, ◌&&◌, List, [], ◌∷◌, length, ◌==◌, nat_le, nat_lt, slice_index, Option, Some, None}
+use Rattle.scalar.specs.declared.refusal.Rule.{Rule}
+use Rattle.scalar.specs.declared.refusal.Rule.TheVariants as rule
 use Rattle.skip.specs.Headers.{start_index, prefix_sum, run_end}
 
 -- W1: 1 to 2,048 headers and 1 to 2,048 offset bytes
@@ -33,15 +35,15 @@ W5 n i at (h ∷ hs) (o ∷ os) =
     (nat_le at (prefix_sum h) && W5 n (i + 1) (prefix_sum h) hs os)
     (W5 n (i + 1) (at + o) (h ∷ hs) os)
 
--- the number of the first of five tests that fails, 0 if none does
-unfoldable pub lowest_of : Bool → Bool → Bool → Bool → Bool → ℕ
-lowest_of false b c d e = 1
-lowest_of true false c d e = 2
-lowest_of true true false d e = 3
-lowest_of true true true false e = 4
-lowest_of true true true true false = 5
-lowest_of true true true true true = 0
+-- the rule of the first of five tests that fails
+unfoldable pub lowest_of : Bool → Bool → Bool → Bool → Bool → Option Rule
+lowest_of false b c d e = Some rule.W1
+lowest_of true false c d e = Some rule.W2
+lowest_of true true false d e = Some rule.W3
+lowest_of true true true false e = Some rule.W4
+lowest_of true true true true false = Some rule.W5
+lowest_of true true true true true = None
 
--- the lowest broken rule, 0 if there is none
-abbrev pub broken : List ℕ → List ℕ → ℕ
+-- the lowest broken rule
+abbrev pub broken : List ℕ → List ℕ → Option Rule
 broken hs os = lowest_of (W1 hs os) (W2 hs) (W3 (length os) hs) (W4 0 hs) (W5 (length os) 0 0 hs os)

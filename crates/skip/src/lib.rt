@@ -1,72 +1,18 @@
-// Skip tables: header words, the checker, and the search, plain or with its read count.
+// Skip tables: header words, the checker, and the search, plain or with its read count. Headers and offsets are two slices here, as C
+// lends them and as document 01 asks of the core.
 #![tactic(auto)]
 
 ghost use Rattle.std.specs.Prelude.{◌≡◌};
 ghost use Rattle.skip.specs.Headers.{start_index, prefix_sum};
-ghost use Rattle.skip.specs.Answers.{checks, searches, finds, check_refusal, found_refusal, found_yes, found_read};
+ghost use Rattle.skip.specs.Answers.{checks, searches, finds};
 
 pub mod kernel;
 mod rules;
+mod table;
 
-use kernel::{lowest_broken, skip_search, skip_search_counted};
-use scalar::{Answer, Refusal, Scalar};
-
-// What the checker answers.
-#[derive(Clone, Copy)]
-pub enum Checked {
-    Accepted,
-    Refused(Refusal),
-}
-
-// What the counted search answers: whether the number is in the set, and how many offsets of its run were read.
-#[derive(Clone, Copy)]
-pub enum Found {
-    Answer(bool, usize),
-    Refused(Refusal),
-}
-
-impl Checked {
-    // The refusal of an answer, None where there is none: what a let-else returns.
-    pub fn refusal(self) -> Refusal
-        ensures { result ≡ check_refusal self }
-    {
-        match self {
-            Checked::Refused(r) => r,
-            Checked::Accepted => Refusal::None,
-        }
-    }
-}
-
-impl Found {
-    pub fn refusal(self) -> Refusal
-        ensures { result ≡ found_refusal self }
-    {
-        match self {
-            Found::Refused(r) => r,
-            Found::Answer(_, _) => Refusal::None,
-        }
-    }
-
-    // Whether the answer is yes; a refusal is no yes.
-    pub fn yes(self) -> bool
-        ensures { result ≡ found_yes self }
-    {
-        match self {
-            Found::Refused(_) => false,
-            Found::Answer(yes, _) => yes,
-        }
-    }
-
-    // How many offsets were read; a refusal reads none.
-    pub fn read(self) -> usize
-        ensures { result ≡ found_read self }
-    {
-        match self {
-            Found::Refused(_) => 0,
-            Found::Answer(_, read) => read,
-        }
-    }
-}
+pub use kernel::Hit;
+use kernel::{lowest_broken, skip_search_counted};
+use scalar::{CodePoint, Refusal};
 
 // A header word's start index, as Rust's ShortOffsetRunHeader has it.
 pub fn start_index(h: u32) -> usize
@@ -84,41 +30,29 @@ pub fn prefix_sum(h: u32) -> u32
 
 // Whether the table keeps the rules W1 to W5; else 8 with the lowest that it breaks.
 #[tactic(auto, unfolding(crate::specs::Answers::table_else))]
-pub fn check(headers: &[u32], offsets: &[u8]) -> Checked
+pub fn check(headers: &[u32], offsets: &[u8]) -> Result<(), Refusal>
     ensures { result ≡ checks headers.now offsets.now }
 {
-    let rule = lowest_broken(headers, offsets);
-    if rule == 0 {
-        return Checked::Accepted;
+    match lowest_broken(headers, offsets) {
+        Some(rule) => Err(Refusal::BrokenRule(rule)),
+        None => Ok(()),
     }
-    Checked::Refused(Refusal::BrokenRule(rule))
 }
 
-// Whether x is in the table's set; refuses 8, then 1.
-pub fn search(headers: &[u32], offsets: &[u8], x: u32) -> Answer
-    ensures { result ≡ searches headers.now offsets.now x }
-{
-    let checked = check(headers, offsets);
-    let Checked::Accepted = checked else {
-        return Answer::Refused(checked.refusal());
-    };
-    if x > Scalar::MAX {
-        return Answer::Refused(Refusal::AboveMax);
-    }
-    Answer::Is(skip_search(headers, offsets, x))
-}
-
-// The same, with the count of the offsets of its run that were read; refuses as the plain search does.
-pub fn search_counted(headers: &[u32], offsets: &[u8], x: u32) -> Found
+// Whether x is in the table's set, with the count of the offsets of its run that were read; refuses 8, then 1.
+#[tactic(auto, unfolding(crate::specs::Answers::table_else), using(crate::proofs::Answers::accepted_rules, scalar::proofs::Points::point_refused, scalar::proofs::Points::point_good, scalar::proofs::Points::point_value))]
+pub fn search_counted(headers: &[u32], offsets: &[u8], x: u32) -> Result<Hit, Refusal>
     ensures { result ≡ finds headers.now offsets.now x }
 {
-    let checked = check(headers, offsets);
-    let Checked::Accepted = checked else {
-        return Found::Refused(checked.refusal());
-    };
-    if x > Scalar::MAX {
-        return Found::Refused(Refusal::AboveMax);
-    }
-    let hit = skip_search_counted(headers, offsets, x);
-    Found::Answer(hit.yes, hit.read)
+    check(headers, offsets)?;
+    let point = CodePoint::new(x)?;
+    Ok(skip_search_counted(headers, offsets, point))
+}
+
+// The same without the count.
+#[tactic(auto, using(crate::proofs::Answers::searches_agree))]
+pub fn search(headers: &[u32], offsets: &[u8], x: u32) -> Result<bool, Refusal>
+    ensures { result ≡ searches headers.now offsets.now x }
+{
+    Ok(search_counted(headers, offsets, x)?.yes)
 }

@@ -19,9 +19,9 @@ use Rattle.skip_forms.specs.Records.{flatten}
 use Rattle.skip_forms.specs.declared.records.Range.{Range}
 use Rattle.skip_forms.specs.declared.views.TableView.{TableView}
 use Rattle.skip_forms.proofs.Fixed.{together}
-use Rattle.skip_forms.specs.contracts.views.check_view as check-view
-use Rattle.skip_forms.specs.contracts.views.search_view as search-view
-use Rattle.skip_forms.specs.contracts.views.search_view_counted as search-view-counted
+use Rattle.skip_forms.specs.contracts.views.TableView.check as check-view
+use Rattle.skip_forms.specs.contracts.views.TableView.search as search-view
+use Rattle.skip_forms.specs.contracts.views.TableView.search_counted as search-view-counted
 use Rattle.skip_forms.specs.contracts.records.pack_ranges as pack-ranges
 
 module _ {M : Type 1} {𝓤 : Ura M} (𝓛 : Logic 𝓤) (mem : Memory → SProp 𝓤) (run : Routine → Fun 𝓤) where

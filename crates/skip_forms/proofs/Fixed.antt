@@ -7,10 +7,10 @@ use prog.Routine.{Routine}
 use types.Logic.{Logic}
 use contract.Monad.{Fun, fact, fact_i, fact_use}
 use Rattle.skip_forms.specs.declared.views.TableView.{TableView}
-use Rattle.skip_forms.specs.contracts.views.view as view
-use Rattle.skip_forms.specs.contracts.views.check_view as check_view
-use Rattle.skip_forms.specs.contracts.views.search_view as search_view
-use Rattle.skip_forms.specs.contracts.views.search_view_counted as search_view_counted
+use Rattle.skip_forms.specs.contracts.views.TableView.new as view
+use Rattle.skip_forms.specs.contracts.views.TableView.check as check_view
+use Rattle.skip_forms.specs.contracts.views.TableView.search as search_view
+use Rattle.skip_forms.specs.contracts.views.TableView.search_counted as search_view_counted
 use Rattle.skip_forms.specs.contracts.views.search_by_view as search_by_view
 use Rattle.skip_forms.specs.contracts.views.search_by_view_counted as search_by_view_counted
 use Rattle.skip_forms.specs.contracts.records.pack_ranges as pack_ranges

@@ -1,6 +1,4 @@
-pub mod ViewType
 pub mod Flat
-pub mod Filled
 pub mod Packed
 pub mod Fixed
 pub mod Equal

@@ -5,4 +5,4 @@ mod records;
 mod views;
 
 pub use records::{Range, pack_ranges};
-pub use views::{TableView, check_view, search_by_view, search_view, view};
+pub use views::{TableView, search_by_view};

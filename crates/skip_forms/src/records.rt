@@ -1,63 +1,48 @@
 // A list lent as a slice of range records.
-ghost use Rattle.std.specs.Prelude.{◌≡◌, length};
+ghost use Rattle.std.specs.Prelude.{◌≡◌, ◌≤◌, length};
 ghost use Rattle.pack.specs.Answers.{Packs};
-ghost use Rattle.skip_forms.specs.Records.{flatten, taken, filled, PacksFlat};
+ghost use Rattle.skip_forms.specs.Records.{flatten, filled};
 
 use pack::Packed;
 use scalar::Refusal;
+use sets::MAX_RANGES;
 
-// How many ranges a list may have.
-const MAX_RANGES: usize = 1023;
+// How many numbers the most ranges have.
+const MAX_NUMBERS: usize = 2 * MAX_RANGES;
 
 // A range of a list, both ends counted.
-#[derive(Clone, Copy)]
+#[derive(Clone, Copy, Debug, PartialEq, Eq, Hash)]
 pub struct Range {
     pub first: u32,
     pub last: u32,
 }
 
-// How many of n records are made flat: a longer list is refused.
-fn at_most_max(n: usize) -> usize
-    ensures { result ≡ taken n }
+// The records as flat pairs; zeros fill what is left.
+#[tactic(auto, using(crate::proofs::Flat::filled_none, crate::proofs::Flat::filled_more))]
+fn flat_pairs(ranges: &[Range]) -> [u32; MAX_NUMBERS]
+    requires { length ranges.now ≤ 1023 }
+    ensures { result ≡ filled (length ranges.now) ranges.now }
 {
-    if n <= MAX_RANGES {
-        return n;
-    }
-    MAX_RANGES
-}
-
-// The records as flat pairs, up to the 1,023 that a list may have; zeros fill what is left.
-fn flat_pairs(ranges: &[Range]) -> [u32; 2046]
-    ensures { result ≡ filled (taken (length ranges.now)) ranges.now }
-{
-    let n = at_most_max(ranges.len());
-    let mut pairs: [u32; 2046] = [0; 2046];
-    let mut i: usize = 0;
-    while i < n {
-        let range = ranges[i];
-        let at = i * 2;
-        pairs[at] = range.first;
-        pairs[at + 1] = range.last;
-        i += 1;
+    let mut pairs = [0; MAX_NUMBERS];
+    for (i, range) in ranges.iter().enumerate() {
+        pairs[i * 2] = range.first;
+        pairs[i * 2 + 1] = range.last;
     }
     pairs
 }
 
-// Packs n records that stand flat in the array; refuses 4 by n, and the rest as the core does.
-fn pack_pairs(pairs: [u32; 2046], n: usize, headers: &mut [u32], offsets: &mut [u8]) -> Packed
-    ensures { PacksFlat pairs n headers.old offsets.old result headers.new offsets.new }
-{
-    if n > MAX_RANGES {
-        return Packed::Refused(Refusal::TooManyRanges);
-    }
-    let used = n * 2;
-    pack::pack(&pairs[..used], headers, offsets)
-}
-
 // Packs a list of range records: the answer and the buffers are the core's over the flat pairs, where 3 can't arise.
-pub fn pack_ranges(ranges: &[Range], headers: &mut [u32], offsets: &mut [u8]) -> Packed
+pub fn pack_ranges(
+    ranges: &[Range],
+    headers: &mut [u32],
+    offsets: &mut [u8],
+) -> Result<Packed, Refusal>
     ensures { Packs (flatten ranges.now) headers.old offsets.old result headers.new offsets.new }
 {
+    if ranges.len() > MAX_RANGES {
+        return Err(Refusal::TooManyRanges);
+    }
     let pairs = flat_pairs(ranges);
-    pack_pairs(pairs, ranges.len(), headers, offsets)
+    let used = ranges.len() * 2;
+    pack::pack(&pairs[..used], headers, offsets)
 }

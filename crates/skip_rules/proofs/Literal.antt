@@ -10,7 +10,7 @@ use borrow.Author.Tests.{eq-eqb, ne_eqb, lt-ltb, le-leb, leb-true}
 use lib.ListN.{length, get_or, drop, take, length-drop}
 use lib.Seq.{slice, drop-drop}
 use lib.Dec.{leb}
-use Rattle.sets.proofs.Decide.{and_left, and_right, and_both}
+use Rattle.std.proofs.lemmas.Bool.{and_from, and_parts}
 use Rattle.skip.specs.Headers.{start_index, prefix_sum, run_end}
 use Rattle.skip.specs.Rules.{W3, W4, W5}
 use Rattle.skip.specs.Seek.{prev, total}
@@ -134,12 +134,12 @@ fits_say : (hs os : List ℕ) (p : ℕ) → Fit p os hs ≡ true → (k : ℕ) �
 fits_say [] os p w k l = absurd (omega arith)
 fits_say (h ∷ hs) os p w zero l =
     leb-true (p + total (slice (start_index h) (run_end (length os) hs - 1) os)) (prefix_sum h)
-    (and_left (leb (p + total (slice (start_index h) (run_end (length os) hs - 1) os)) (prefix_sum h)) (Fit (prefix_sum h) os hs)
-    (sym (fit_on p h os hs) ∙ w))
+    (and_parts (leb (p + total (slice (start_index h) (run_end (length os) hs - 1) os)) (prefix_sum h)) (Fit (prefix_sum h) os hs)
+    (sym (fit_on p h os hs) ∙ w)).0
 fits_say (h ∷ hs) os p w (suc k) l =
     let z =
-    and_right (leb (p + total (slice (start_index h) (run_end (length os) hs - 1) os)) (prefix_sum h)) (Fit (prefix_sum h) os hs)
-    (sym (fit_on p h os hs) ∙ w)
+    (and_parts (leb (p + total (slice (start_index h) (run_end (length os) hs - 1) os)) (prefix_sum h)) (Fit (prefix_sum h) os hs)
+    (sym (fit_on p h os hs) ∙ w)).1
     in
     rw (add-one (suc k), ← (shift p h hs k)) (rw (add-one k) at (fits_say hs os (prefix_sum h) z k (omega arith)))
 
@@ -147,7 +147,7 @@ fits_back : (hs os : List ℕ) (p : ℕ) → ((k : ℕ) → k < length hs → pr
 fits_back [] os p f = fit_nil p os
 fits_back (h ∷ hs) os p f =
     fit_on p h os hs
-    ∙ and_both (leb (p + total (slice (start_index h) (run_end (length os) hs - 1) os)) (prefix_sum h)) (Fit (prefix_sum h) os hs)
+    ∙ and_from (leb (p + total (slice (start_index h) (run_end (length os) hs - 1) os)) (prefix_sum h)) (Fit (prefix_sum h) os hs)
     (le-leb (p + total (slice (start_index h) (run_end (length os) hs - 1) os)) (prefix_sum h) (f 0 (omega arith)))
     (fits_back hs os (prefix_sum h)
     (λ k l. rw (add-one k) (rw (add-one (suc k), ← (shift p h hs k)) at (f (suc k) (omega arith)))))

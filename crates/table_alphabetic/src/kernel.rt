@@ -1,14 +1,14 @@
-// The one function that names the table's constants: it lends them to the search once in a call.
-ghost use Rattle.std.specs.Prelude.{◌≡◌, ◌≤◌};
+// The lookup: the skip search in the table. A line in each of these crates, since each names its own table.
+ghost use Rattle.std.specs.Prelude.{◌≡◌};
 ghost use Rattle.sets.specs.Lists.{holds};
 ghost use Rattle.table_alphabetic.specs.Flat.{flat};
 
 use crate::table::{HEADERS, OFFSETS};
+use scalar::CodePoint;
 
 // Whether n is alphabetic and no ASCII character.
-pub fn lookup(n: u32) -> bool
-    requires { n ≤ 0x10FFFF }
-    ensures { result ≡ holds flat n }
+pub fn lookup(n: CodePoint) -> bool
+    ensures { result ≡ holds flat n.value }
 {
     skip::kernel::skip_search(&HEADERS, &OFFSETS, n)
 }

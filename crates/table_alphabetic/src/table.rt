@@ -1,7 +1,7 @@
 // Generated from library/core/src/unicode/unicode_data.rs of Rust 1.97.0 by `oracle/make`; do not edit.
 
 // header words: start index times 2^21 plus prefix sum, the last sum by the house rule
-pub const HEADERS: [u32; 51] = [
+pub static HEADERS: [u32; 51] = [
     0x000002C2, 0x01801249, 0x33C0166D, 0x38801F16, 0x450024B6, 0x4DE02C00, 0x4E203005, 0x52E03400,
     0x55E04DC0, 0x5600A48D, 0x5640A60D, 0x56C0D7A4, 0x6140F900, 0x61E0FA6E, 0x6200FD3E, 0x64C10280,
     0x69E10737, 0x6FC11EE0, 0x9821239A, 0x99812F90, 0x9A213430, 0x9A8143FB, 0x9B014647, 0x9B416100,
@@ -12,7 +12,7 @@ pub const HEADERS: [u32; 51] = [
 ];
 
 // offsets: one for each boundary, and one that closes
-pub const OFFSETS: [u8; 1519] = [
+pub static OFFSETS: [u8; 1519] = [
     170, 1, 10, 1, 4, 1, 5, 23, 1, 31, 1, 0, 4, 12, 14, 5, 7, 1, 1, 1, 86, 1, 29, 18, 1, 2, 2, 4,
     1, 1, 6, 1, 1, 3, 1, 1, 1, 20, 1, 83, 1, 139, 8, 166, 1, 38, 2, 1, 6, 41, 39, 14, 1, 1, 1, 2,
     1, 2, 1, 1, 8, 27, 4, 4, 29, 11, 5, 56, 1, 7, 14, 102, 1, 8, 4, 8, 4, 3, 10, 3, 2, 1, 16, 48,

@@ -1,22 +1,14 @@
 -- The lowercase bitset equals its flat list at every number, by computed tests over the table. Assumes nothing.
 use Rattle.std.specs.Prelude.{◌≡◌, ℕ}
 use mathlib.Core.Path.{refl}
-use lib.Dec.{lit≤}
 use Rattle.sets.specs.Lists.{edges, holds}
 use Rattle.sets.proofs.Members.{rising}
-use Rattle.bitset.specs.Bitsets.{Bitset, bitset, word_at, contains, all_below, Inside}
+use Rattle.bitset.specs.Bitsets.{word_at, contains, all_below}
 use Rattle.bitset.proofs.Scan.{scan, places}
 use Rattle.bitset.proofs.Equal.{Scanned, equal}
 use Rattle.table_lowercase.specs.Table.{chunk_map, chunks, canonical, mapped_word, mapping}
 use Rattle.table_lowercase.specs.Flat.{flat}
-
-abbrev pub table : Bitset
-table = bitset chunk_map chunks canonical mapped_word mapping
-
--- every index is inside its table
-pub table_inside : Inside table
-unfolding chunk_map chunks canonical mapped_word mapping all_below
-table_inside = record { map_in = refl; chunks_in = refl; real_in = refl; mapping_in = lit≤ tt }
+use Rattle.table_lowercase.specs.Inside.{table}
 
 scanned : Scanned table flat
 unfolding chunk_map chunks canonical mapped_word mapping flat all_below word_at edges rising scan places

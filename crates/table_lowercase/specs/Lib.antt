@@ -1,3 +1,4 @@
 pub mod Table
 pub mod Flat
 pub mod Unicode
+pub mod Inside

@@ -1,35 +1,41 @@
-// The lookup, by the steps of document 000: from the number to its chunk, to its bucket's index byte, to the word.
-ghost use Rattle.std.specs.Prelude.{◌≡◌, ◌<◌, length, slice_index};
+// The lookup: the bitset's search in the tables that are compiled in.
+ghost use Rattle.std.specs.Prelude.{◌≡◌};
 ghost use Rattle.sets.specs.Lists.{holds};
 ghost use Rattle.table_lowercase.specs.Flat.{flat};
-ghost use Rattle.table_lowercase.specs.Table.{chunk_map, chunks};
+ghost use Rattle.table_lowercase.specs.Inside.{table, table_inside};
 
 use crate::table::{CHUNK_MAP_LENGTH, chunk_map_eight, chunks_eight, word_at};
-use bitset::kernel::{byte_at, has_bit};
+use bitset::kernel::{Tables, byte_at, contains};
 
-fn chunk_at(i: usize) -> usize
-    requires { i < length chunk_map }
-    ensures { result ≡ slice_index chunk_map i }
-{
-    byte_at(chunk_map_eight(i / 8), i)
-}
+struct Lowercase;
 
-fn index_at(i: usize) -> usize
-    requires { i < length chunks }
-    ensures { result ≡ slice_index chunks i }
-{
-    byte_at(chunks_eight(i / 8), i)
+impl Tables for Lowercase {
+    ghost tables = { λ s. table };
+
+    #[tactic(auto, unfolding(crate::specs::Table::chunk_map))]
+    fn map_len(&self) -> usize {
+        CHUNK_MAP_LENGTH
+    }
+
+    fn chunk_at(&self, i: usize) -> u8 {
+        byte_at(chunk_map_eight(i / 8), i)
+    }
+
+    fn index_at(&self, i: usize) -> u8 {
+        byte_at(chunks_eight(i / 8), i)
+    }
+
+    fn word_at(&self, i: usize) -> u64 {
+        word_at(i)
+    }
+
+    ghost inside = { λ s. table_inside };
 }
 
 // Whether n is lowercase and no ASCII letter.
+#[tactic(auto, using(crate::proofs::Right::table_right))]
 pub fn lookup(n: u32) -> bool
     ensures { result ≡ holds flat n }
 {
-    let bucket = (n / 64) as usize;
-    let chunk = bucket / 16;
-    if chunk >= CHUNK_MAP_LENGTH {
-        return false;
-    }
-    let index = index_at(chunk_at(chunk) * 16 + bucket % 16);
-    has_bit(word_at(index), n)
+    contains(&Lowercase, n)
 }

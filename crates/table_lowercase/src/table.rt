@@ -14,6 +14,7 @@ pub const CHUNK_MAP_LENGTH: usize = 123;
 const UNREACHED: u64 = 0x0123456789ABCDEF;
 
 // the chunk of each 1,024 numbers, eight bytes to an arm, the lowest first
+#[tactic(auto, unfolding(bitset::specs::Packed::eight, bitset::specs::Packed::joined, crate::specs::Table::chunk_map))]
 pub(crate) fn chunk_map_eight(k: usize) -> u64
     requires { 8 * k < length chunk_map }
     ensures { result ≡ eight chunk_map k }
@@ -40,6 +41,7 @@ pub(crate) fn chunk_map_eight(k: usize) -> u64
 }
 
 // the index bytes of the chunks, eight to an arm, the lowest first
+#[tactic(auto, unfolding(bitset::specs::Packed::eight, bitset::specs::Packed::joined, crate::specs::Table::chunks))]
 pub(crate) fn chunks_eight(k: usize) -> u64
     requires { 8 * k < length chunks }
     ensures { result ≡ eight chunks k }
@@ -90,6 +92,7 @@ pub(crate) fn chunks_eight(k: usize) -> u64
 }
 
 // the word of an index byte: the canonical words, and then the pairs, each by its mapping and its word
+#[tactic(auto, unfolding(bitset::specs::Bitsets::word_at, crate::specs::Table::canonical, crate::specs::Table::mapped_word, crate::specs::Table::mapping))]
 pub(crate) fn word_at(index: usize) -> u64
     requires { index < length canonical + length mapped_word }
     ensures { result ≡ word_at canonical mapped_word mapping index }

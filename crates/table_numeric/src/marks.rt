@@ -10,6 +10,7 @@ pub(crate) const MARKS_LENGTH: usize = 32;
 const UNREACHED: u64 = 0x0123456789ABCDEF;
 
 // whether a bucket of 64 numbers holds one at all, 64 buckets to a word, the lowest first
+#[tactic(auto, unfolding(bitset::specs::Marks::marks_at, crate::specs::Marks::marks))]
 pub(crate) fn marks_at(k: usize) -> u64
     requires { k < length marks }
     ensures { result ≡ marks_at marks k }

@@ -1,7 +1,7 @@
 // Generated from library/core/src/unicode/unicode_data.rs of Rust 1.97.0 by `oracle/make`; do not edit.
 
 // header words: start index times 2^21 plus prefix sum, the last sum by the house rule
-pub const HEADERS: [u32; 43] = [
+pub static HEADERS: [u32; 43] = [
     0x00000660, 0x00E00966, 0x01A01040, 0x05E01369, 0x066016EE, 0x06A01946, 0x07A02070, 0x09A02460,
     0x0AE02776, 0x0B602CFD, 0x0BA03007, 0x0BE03192, 0x0CA0A620, 0x0E20A830, 0x0EA0ABF0, 0x1020FF10,
     0x10610107, 0x10A102E1, 0x11610858, 0x12E10CFA, 0x16A10E60, 0x17611450, 0x19E11650, 0x1A6118E0,
@@ -11,7 +11,7 @@ pub const HEADERS: [u32; 43] = [
 ];
 
 // offsets: one for each boundary, and one that closes
-pub const OFFSETS: [u8; 291] = [
+pub static OFFSETS: [u8; 291] = [
     178, 2, 5, 1, 2, 3, 0, 10, 134, 10, 198, 10, 0, 10, 118, 10, 4, 6, 108, 10, 118, 10, 118, 10,
     2, 6, 110, 13, 115, 10, 8, 7, 103, 10, 104, 7, 7, 19, 109, 10, 96, 10, 118, 10, 70, 20, 0, 10,
     70, 10, 0, 20, 0, 3, 239, 10, 6, 10, 22, 10, 0, 10, 128, 11, 165, 10, 6, 10, 182, 10, 86, 10,

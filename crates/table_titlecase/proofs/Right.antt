@@ -1,6 +1,6 @@
 -- The titlecase table keeps the rules and answers as its flat list, by computed tests; so does the table with the closing
 -- sum of the Rust. Assumes nothing.
-use Rattle.std.specs.Prelude.{◌≡◌, ℕ, ◌≤◌}
+use Rattle.std.specs.Prelude.{◌≡◌, ℕ, ◌≤◌, None}
 use mathlib.Core.Path.{refl}
 use lib.Dec.{lit<}
 use Rattle.sets.specs.Boundaries.{member}
@@ -44,14 +44,14 @@ rust_walked =
     }
 
 -- the table keeps W1 to W5
-pub table_keeps : broken headers offsets ≡ 0
+pub table_keeps : broken headers offsets ≡ None
 table_keeps = keeps headers offsets flat 21 0x1FFFFF walked
 
 pub table_right : (x : ℕ) → x ≤ 0x10FFFF → member (boundaries headers offsets) x ≡ holds flat x
 table_right = answers headers offsets flat 21 0x1FFFFF walked
 
 -- and so it does with the closing sum of the Rust
-pub rust_keeps : broken rust_headers offsets ≡ 0
+pub rust_keeps : broken rust_headers offsets ≡ None
 rust_keeps = keeps rust_headers offsets flat 21 1122301 rust_walked
 
 pub rust_right : (x : ℕ) → x ≤ 0x10FFFF → member (boundaries rust_headers offsets) x ≡ holds flat x

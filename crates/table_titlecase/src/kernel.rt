@@ -1,15 +1,16 @@
-// The functions that name the constants, each one only here: they lend them to a search once in a call.
-ghost use Rattle.std.specs.Prelude.{◌≡◌, ◌≤◌};
+// The lookup: the skip search in the table, or the search in the ranges themselves. A line in each of these crates, since each names
+// its own table.
+ghost use Rattle.std.specs.Prelude.{◌≡◌};
 ghost use Rattle.sets.specs.Lists.{holds};
 ghost use Rattle.table_titlecase.specs.Flat.{flat};
 
 use crate::ranges::RANGES;
 use crate::table::{HEADERS, OFFSETS};
+use scalar::CodePoint;
 
 // Whether n is titlecase and no ASCII character.
-pub fn lookup(n: u32) -> bool
-    requires { n ≤ 0x10FFFF }
-    ensures { result ≡ holds flat n }
+pub fn lookup(n: CodePoint) -> bool
+    ensures { result ≡ holds flat n.value }
 {
     skip::kernel::skip_search(&HEADERS, &OFFSETS, n)
 }

@@ -3,10 +3,15 @@
 -- from 0x80 on exactly if the flat list does. Assumes nothing.
 use Prim.Native.Nat.{ℕ, ◌%◌, ◌≤◌, ◌<◌}
 use mathlib.Core.Path.{◌≡◌, refl, sym, ap, ◌∙◌}
-use mathlib.Core.Bool.{Bool, true, false, ◌||◌}
+use mathlib.Core.Bool.{Bool, true, false, ◌||◌, ◌&&◌}
+use Rattle.std.proofs.Math.Bool.{or-false, or_assoc}
 use mathlib.Core.List.{List, [], ◌∷◌, ◌++◌}
 use native.Mathlib.Omega.{arith}
 use lib.ListN.{length}
+use lib.Dec.{leb}
+use borrow.Author.Tests.{le-leb, lt-leb}
+use mathlib.Core.Logic.{⊎_elim}
+use Rattle.sets.proofs.Decide.{split}
 use Rattle.scalar.specs.Scalars.{between}
 use Rattle.sets.specs.Lists.{edges, holds}
 use Rattle.sets.proofs.Members.{rising, none_below}
@@ -18,14 +23,6 @@ pub record Parts (unicode ascii flat : List ℕ) (floor : ℕ) : Type 0 where
   pub pairs : length ascii % 2 ≡ 0
   pub low : all_below 0x80 ascii ≡ true
   pub high : rising floor (edges flat) ≡ true
-
-or-false : (b : Bool) → (b || false) ≡ b
-or-false true = refl
-or-false false = refl
-
-or_assoc : (a b c : Bool) → ((a || b) || c) ≡ (a || (b || c))
-or_assoc true b c = refl
-or_assoc false b c = refl
 
 -- two lists together hold what either holds
 pub both_hold : (x : ℕ) (a b : List ℕ) → length a % 2 ≡ 0 → holds (a ++ b) x ≡ (holds a x || holds b x)
@@ -42,15 +39,10 @@ module _ (unicode ascii flat : List ℕ) (floor : ℕ) (parts : Parts unicode as
   pub below_floor : x < floor → holds unicode x ≡ holds ascii x
   below_floor h = either ∙ ap (λ (t : Bool). holds ascii x || t) (none_below x floor flat parts.high h).1 ∙ or-false (holds ascii x)
 
-  pub from_ascii : 0x80 ≤ x → holds unicode x ≡ holds flat x
-  from_ascii h = either ∙ ap (λ (t : Bool). t || holds flat x) (none_past x 0x80 ascii parts.low h)
-
-  -- what an entry's three ways to answer cite: the ASCII part holds x; it does not, and x is below the floor; the table's answer
-  pub ascii_yes : holds ascii x ≡ true → true ≡ holds unicode x
-  ascii_yes e = sym (either ∙ ap (λ (t : Bool). t || holds flat x) e)
-
-  pub ascii_no : holds ascii x ≡ false → x < floor → false ≡ holds unicode x
-  ascii_no e h = sym (below_floor h ∙ e)
-
-  pub from_table : (r : Bool) → 0x80 ≤ x → r ≡ holds flat x → r ≡ holds unicode x
-  from_table r h e = e ∙ sym (from_ascii h)
+  -- what an entry answers: what the ASCII part says, and from the floor on what the flat list says
+  pub in_parts : holds unicode x ≡ (holds ascii x || (leb floor x && holds flat x))
+  in_parts =
+      ⊎_elim
+      (λ h. rw (le-leb floor x h) either)
+      (λ h. rw (lt-leb floor x h, or-false (holds ascii x)) (below_floor h))
+      (split floor x)

@@ -5,6 +5,7 @@ use mathlib.Core.Path.{◌≡◌, sym, ap, ◌∙◌}
 use mathlib.Core.Bool.{true}
 use mathlib.Core.List.{List, [], ◌∷◌, ◌++◌}
 use native.Mathlib.Omega.{arith}
+use Rattle.std.specs.Prelude.{None}
 use lib.ListN.{length}
 use Rattle.sets.specs.Boundaries.{member, odd}
 use Rattle.sets.specs.Lists.{edges, holds}
@@ -30,7 +31,7 @@ module _ (headers offsets flat : List ℕ) (n closing : ℕ) (w : Walked headers
   pub bounds : boundaries headers offsets ≡ edges flat ++ closing ∷ []
   bounds = rw w.size (sym (fast_walk_lem n 0 0 headers offsets) ∙ w.walks)
 
-  pub keeps : broken headers offsets ≡ 0
+  pub keeps : broken headers offsets ≡ None
   keeps =
       sym
       (none (W1 headers offsets) (W2 headers) (W3 (length offsets) headers) (W4 0 headers) (W5 (length offsets) 0 0 headers offsets)

@@ -1,7 +1,7 @@
 -- The unpacked list of an accepted table is one that the list check never refuses with 5: the boundaries that are listed
 -- climb strictly, so no first is above its last, no last above 0x10FFFF, and at least one number stands between neighbours.
 -- Its length is even, so of 3, 4 and 5 only 4 is left. Assumes nothing.
-use Rattle.std.specs.Prelude.{◌≡◌, ℕ, ◌+◌, ◌-◌, ◌%◌, ◌≤◌, Bool, true, false, cond, ltb, List, [], ◌∷◌, length}
+use Rattle.std.specs.Prelude.{◌≡◌, ℕ, ◌+◌, ◌-◌, ◌%◌, ◌≤◌, Bool, true, false, cond, ltb, List, [], ◌∷◌, length, None}
 use mathlib.Core.Path.{refl}
 use mathlib.Core.Logic.{⊎_elim}
 use native.Mathlib.Omega.{arith}
@@ -11,7 +11,8 @@ use Rattle.scalar.specs.declared.refusal.Refusal.TheVariants.{TooManyRanges}
 use Rattle.sets.specs.Lists.{ranges, bad_at}
 use Rattle.sets.specs.Answers.{list_else}
 use Rattle.sets.specs.Demand.{Listed}
-use Rattle.sets.proofs.Decide.{split, same}
+use Rattle.std.proofs.lemmas.Bool.{cases_eq}
+use Rattle.sets.proofs.Decide.{split}
 use Rattle.sets.proofs.Good.{Good}
 use Rattle.sets.proofs.Demand.{listed_exactly}
 use Rattle.sets.proofs.Members.{rising, rising_on}
@@ -44,7 +45,7 @@ climbs_on true p b bs h k l z =
     ⊎_elim
     (λ e. rw (flow_same p b bs k e) (climbs_from p b _ l (z false)))
     (λ e. rw (flow_apart p b bs k e) (next m h (climbs_from (p + 1) b _ (omega arith) (z true))))
-    (same p b)
+    (cases_eq p b)
 
 flow_climbs : (bs : List ℕ) (w : Bool) (p : ℕ) → p ≤ 0x10FFFF → rising p bs ≡ true → Climbs p (flow w p bs)
 flow_climbs [] w p h r = last_climbs w p h
@@ -97,7 +98,7 @@ flat_fine i low (a ∷ (b ∷ bs)) (next l h (next m k z)) =
     rw (flat_pair a b bs)
     (omega arith, rw (bad_on i low a (b - 1) (flat bs) l (omega arith) (omega arith), e) (omega (arith, y.1)))
 
-module _ (hs os : List ℕ) (accepted : broken hs os ≡ 0) where
+module _ (hs os : List ℕ) (accepted : broken hs os ≡ None) where
   pub list_climbs : Climbs 0 (joined (unequal (kept (boundaries hs os))))
   list_climbs = rw (flow_is hs os accepted) (flow_climbs (boundaries hs os) false 0 (omega arith) (boundaries_rise hs os accepted))
 

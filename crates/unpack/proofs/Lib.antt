@@ -1,6 +1,6 @@
-pub mod Flows
 pub mod Rising
 pub mod Same
+pub mod Left
 pub mod Apart
 pub mod Outcome
 pub mod SameSet

@@ -1,11 +1,12 @@
 -- One set, one packing: two tables that keep the rules, unpacked and packed again, give the same headers and offsets exactly if
 -- they agree at every number. A set has one list (sets' law `unique`), a list has one packing, and unpacking a packing gives
 -- its list back. Assumes nothing.
-use Rattle.std.specs.Prelude.{◌≡◌, ℕ, ◌≤◌, ◌↔◌, List, length, take}
+use Rattle.std.specs.Prelude.{◌≡◌, ℕ, ◌≤◌, ◌↔◌, List, length, take, None, Result, Err}
 use mathlib.Core.Path.{◌∙◌, sym, refl, ap}
 use native.Mathlib.Omega.{arith}
 use borrow.Author.Tests.{eq-eqb, lt-ltb}
 use Rattle.scalar.specs.declared.refusal.Refusal.TheVariants as refusal
+use Rattle.scalar.specs.declared.refusal.Refusal.{Refusal}
 use Rattle.sets.specs.Boundaries.{member}
 use Rattle.sets.specs.Lists.{ranges, holds}
 use Rattle.sets.specs.Answers.{list_else}
@@ -18,11 +19,9 @@ use Rattle.skip_rules.proofs.Stated.{Keeps, accepts_exactly}
 use Rattle.pack.specs.Packing.{headers, offsets}
 use Rattle.pack.specs.Answers.{offset_need, header_need, packed_headers, packed_offsets, pack_else, Packs}
 use Rattle.pack.specs.declared.Packed.{Packed}
-use Rattle.pack.specs.declared.Packed.TheVariants as packed
 use Rattle.pack.proofs.Listed.{packs_listed}
 use Rattle.unpack.specs.Unpacking.{list}
 use Rattle.unpack.specs.Answers.{Unpacks, unpacked_numbers}
-use Rattle.unpack.specs.declared.Unpacked.{Unpacked}
 use Rattle.unpack.proofs.Apart.{unpack_apart, unpack_good}
 use Rattle.unpack.proofs.RoundTrip.{unpack_pack}
 use Rattle.unpack.proofs.SameSet.{unpack_same_set, unpacks_kept}
@@ -35,13 +34,13 @@ Agree hs os hs' os' = (x : ℕ) → x ≤ 0x10FFFF → member (boundaries hs os)
 -- buffers with room, and what the packer reported of them is the table hs'', os''
 pub record Repacks (hs os hs'' os'' : List ℕ) : Type 0 where
   pub out : List ℕ
-  pub unpacked : Unpacked
+  pub unpacked : Result ℕ Refusal
   pub out' : List ℕ
   pub unpacks : Unpacks hs os out unpacked out'
   pub room : length (list hs os) ≤ length out
   pub hb : List ℕ
   pub ob : List ℕ
-  pub answer : Packed
+  pub answer : Result Packed Refusal
   pub hb' : List ℕ
   pub ob' : List ℕ
   pub packs : Packs (take (unpacked_numbers unpacked) out') hb ob answer hb' ob'
@@ -60,7 +59,7 @@ repacks_as hs os hs'' os'' k few t =
     let p = packs_listed (list hs os) t.hb t.ob t.answer t.hb' t.ob' promised ((listed_exactly (list hs os)).1 good) t.room_offsets t.room_headers in
     (t.headers_are ∙ p.writes_headers, t.offsets_are ∙ p.writes_offsets)
 
-module _ (hs os hs' os' : List ℕ) (b : broken hs os ≡ 0) (b' : broken hs' os' ≡ 0) (few : ranges (list hs os) ≤ 1023) (few' : ranges (list hs' os') ≤ 1023) where
+module _ (hs os hs' os' : List ℕ) (b : broken hs os ≡ None) (b' : broken hs' os' ≡ None) (few : ranges (list hs os) ≤ 1023) (few' : ranges (list hs' os') ≤ 1023) where
   good : Good (list hs os)
   good = unpack_good hs os b few
 
@@ -95,8 +94,8 @@ one_packing hs os hs' os' hs₂ os₂ hs₃ os₃ k k' few few' t t' =
     )
 
 -- a table of 1,024 joined ranges is refused 4 by the packer
-pub one_too_many : (hs os hb ob : List ℕ) (r : Packed) (hb' ob' : List ℕ) → Keeps hs os → ranges (list hs os) ≡ 1024
-    → Packs (list hs os) hb ob r hb' ob' → r ≡ packed.Refused refusal.TooManyRanges
+pub one_too_many : (hs os hb ob : List ℕ) (r : Result Packed Refusal) (hb' ob' : List ℕ) → Keeps hs os → ranges (list hs os) ≡ 1024
+    → Packs (list hs os) hb ob r hb' ob' → r ≡ Err refusal.TooManyRanges
 unfolding pack_else list_else
 one_too_many hs os hb ob r hb' ob' k n p =
     let even = (unpack_apart hs os ((accepts_exactly hs os).1 k)).0 in

@@ -1,10 +1,10 @@
 -- The boundaries of an accepted table do not fall: rule W5, offset by offset. Assumes nothing.
-use Rattle.std.specs.Prelude.{◌≡◌, ℕ, ◌+◌, ◌≤◌, true, List, [], ◌∷◌, length}
+use Rattle.std.specs.Prelude.{◌≡◌, ℕ, ◌+◌, ◌≤◌, true, List, [], ◌∷◌, length, None}
 use mathlib.Core.Path.{refl}
 use mathlib.Core.Logic.{⊎_elim}
 use native.Mathlib.Omega.{arith}
 use borrow.Author.Tests.{le-leb}
-use Rattle.sets.proofs.Decide.{same}
+use Rattle.std.proofs.lemmas.Bool.{cases_eq}
 use Rattle.sets.proofs.Members.{rising, rising_on}
 use Rattle.skip.specs.Headers.{prefix_sum, run_end}
 use Rattle.skip.specs.Table.{walk, boundaries}
@@ -44,9 +44,9 @@ walk_rising n (o ∷ os) i at (h ∷ hs) w =
     (λ e.
     let v = rule_on n i at h o hs os e w in
     rw (walk_on n i at h o hs os e) (rising_cons at (at + o) _ (omega arith) (walk_rising n os (i + 1) (at + o) (h ∷ hs) v)))
-    (same (i + 1) (run_end n hs))
+    (cases_eq (i + 1) (run_end n hs))
 
-pub boundaries_rise : (hs os : List ℕ) → broken hs os ≡ 0 → rising 0 (boundaries hs os) ≡ true
+pub boundaries_rise : (hs os : List ℕ) → broken hs os ≡ None → rising 0 (boundaries hs os) ≡ true
 boundaries_rise hs os b =
     let w = all (W1 hs os) (W2 hs) (W3 (length os) hs) (W4 0 hs) (W5 (length os) 0 0 hs os) b in
     walk_rising (length os) os 0 0 hs w.4

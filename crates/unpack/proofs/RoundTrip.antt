@@ -1,9 +1,10 @@
 -- Unpacking what the packer wrote gives the list back, range by range: the boundaries of an accepted list climb strictly, so
 -- nothing is dropped or joined, and only a range that ends at 0x10FFFF leaves its pair open. Assumes nothing.
-use Rattle.std.specs.Prelude.{◌≡◌, ℕ, ◌+◌, ◌-◌, ◌%◌, ◌≤◌, List, [], ◌∷◌, ◌++◌, length}
+use Rattle.std.specs.Prelude.{◌≡◌, ℕ, ◌+◌, ◌-◌, ◌%◌, ◌≤◌, List, [], ◌∷◌, ◌++◌, length, Result, Ok}
 use mathlib.Core.Path.{◌∙◌, sym, refl}
 use mathlib.Core.Logic.{⊎_elim}
 use native.Mathlib.Omega.{arith}
+use Rattle.scalar.specs.declared.refusal.Refusal.{Refusal}
 use Rattle.sets.specs.Lists.{ranges, bad_at, edges}
 use Rattle.sets.specs.Buffers.{over}
 use Rattle.sets.proofs.Decide.{split}
@@ -12,8 +13,6 @@ use Rattle.pack.specs.Packing.{headers, offsets}
 use Rattle.pack.proofs.Written.{passes, bounds}
 use Rattle.unpack.specs.Unpacking.{kept, flat, list}
 use Rattle.unpack.specs.Answers.{Unpacks}
-use Rattle.unpack.specs.declared.Unpacked.{Unpacked}
-use Rattle.unpack.specs.declared.Unpacked.TheVariants.{Done}
 use Rattle.unpack.proofs.Same.{kept_in, kept_out}
 use Rattle.unpack.proofs.Apart.{Climbs, none, next, climbs_from, stays, flat_pair}
 use Rattle.unpack.proofs.Outcome.{done}
@@ -71,9 +70,9 @@ unpack_pack l g =
     let z = back 0 0 l g.even (omega (arith, g.fine)) in
     rw (bounds l g, stays 0 (bounded l) z.0) z.1
 
--- and so does the unpacker: with room for the list it answers Done and leaves the list in front, whatever it was lent
-pub unpacks_packed : (l out : List ℕ) (r : Unpacked) (out' : List ℕ) → Good l → Unpacks (headers l) (offsets l) out r out'
-    → length l ≤ length out → (r ≡ Done (length l)) × (out' ≡ over l out)
+-- and so does the unpacker: with room for the list it answers Ok and leaves the list in front, whatever it was lent
+pub unpacks_packed : (l out : List ℕ) (r : Result ℕ Refusal) (out' : List ℕ) → Good l → Unpacks (headers l) (offsets l) out r out'
+    → length l ≤ length out → (r ≡ Ok (length l)) × (out' ≡ over l out)
 unpacks_packed l out r out' g p room =
     let same = unpack_pack l g in
     let d = done (headers l) (offsets l) out (passes l g) (rw same room) in

@@ -2,12 +2,13 @@
 -- same. The pairs are read one boundary at a time, with what is held back so far: nothing, the start of a pair, the end of a
 -- pair, or an end and the start after it. That boundaries do not fall is used where an equal pair is dropped behind an end
 -- that is held back: no later start can equal that end. Assumes nothing.
-use Rattle.std.specs.Prelude.{◌≡◌, ℕ, ◌+◌, ◌%◌, ◌<◌, ◌≤◌, Bool, true, false, List, [], ◌∷◌}
+use Rattle.std.specs.Prelude.{◌≡◌, ℕ, ◌<◌, ◌≤◌, Bool, true, false, List, [], ◌∷◌, None}
 use mathlib.Core.Path.{◌∙◌, sym, refl, ap}
 use mathlib.Core.Logic.{⊎_elim}
 use native.Mathlib.Omega.{arith}
 use borrow.Author.Tests.{le-leb, lt-leb, eq-eqb, ne_eqb}
-use Rattle.sets.proofs.Decide.{split, same}
+use Rattle.std.proofs.lemmas.Bool.{cases_eq}
+use Rattle.sets.proofs.Decide.{split}
 use Rattle.sets.proofs.Members.{rising, rising_on}
 use Rattle.skip.specs.Table.{boundaries}
 use Rattle.skip.specs.Rules.{broken}
@@ -60,7 +61,7 @@ joined_from_lem a (b ∷ (c ∷ bs)) =
     ⊎_elim
     (λ e. rw (eq-eqb b c e) (joined_from_lem a bs))
     (λ e. rw (ne_eqb b c e, joined_from_lem c bs) refl)
-    (same b c)
+    (cases_eq b c)
 
 -- the steps of the loops
 pub flow_none : (w : Bool) (p : ℕ) → flow w p [] ≡ when w p []
@@ -131,7 +132,7 @@ mutual
       (⊎_elim
       (λ q. rw (drops_same a b (kept bs) q, flow_same a b bs h q) (free bs b y.1))
       (λ q. rw (drops_not a b (kept bs) q, joined_from_lem a (b ∷ unequal (kept bs)), flow_apart a b bs h q, ended bs b y.1) refl)
-      (same a b)))
+      (cases_eq a b)))
       (λ h. rw (kept_out b bs h, kept_high bs b y.1 h, flow_high true a b bs h) (end_start a))
       (split b 0x10FFFF)
 
@@ -146,7 +147,7 @@ mutual
       (⊎_elim
       (λ q. rw (flow_same e b bs h q, q) (touching bs b y.1))
       (λ q. rw (flow_apart e b bs h q) (between bs e b (omega arith) y.1))
-      (same e b)))
+      (cases_eq e b)))
       (λ h. rw (kept_out b bs h, kept_high bs b y.1 h, flow_high true e b bs h) (end_end e))
       (split b 0x10FFFF)
 
@@ -161,7 +162,7 @@ mutual
       (⊎_elim
       (λ q. rw (drops_same a b (kept bs) q, q) (ended bs b y.1))
       (λ q. rw (drops_not a b (kept bs) q, drops_same a a (b ∷ unequal (kept bs)) refl) (ended bs b y.1))
-      (same a b)))
+      (cases_eq a b)))
       (λ h. rw (kept_out b bs h, kept_high bs b y.1 h, flow_high false a b bs h) (end_touch a))
       (split b 0x10FFFF)
 
@@ -180,23 +181,21 @@ mutual
       (ended bs e (rising_less e b bs (omega arith) y.1) ∙ flow_below e b bs (omega arith) y.1))
       (λ q.
       rw (drops_not a b (kept bs) q, drops_not e a (b ∷ unequal (kept bs)) n, flow_apart a b bs h q, ended bs b y.1) refl)
-      (same a b)))
+      (cases_eq a b)))
       (λ h. rw (kept_out b bs h, kept_high bs b y.1 h, flow_high true a b bs h) (end_both e a n))
       (split b 0x10FFFF)
 
 -- number by number or in pairs
-numbers_flat : (m : ℕ) (bs : List ℕ) → m % 2 ≡ 0 → numbers m bs ≡ flat bs
+numbers_flat : (bs : List ℕ) → numbers false bs ≡ flat bs
 unfolding numbers flat
-numbers_flat m [] e = rw e refl
-numbers_flat m (a ∷ []) e = let f : (m + 1) % 2 ≡ 1 = omega arith in rw (e, f) refl
-numbers_flat m (a ∷ (b ∷ bs)) e =
-    let f : (m + 1) % 2 ≡ 1 = omega arith in
-    rw (e, f, numbers_flat (m + 1 + 1) bs (omega arith)) refl
+numbers_flat [] = refl
+numbers_flat (a ∷ []) = refl
+numbers_flat (a ∷ (b ∷ bs)) = rw (numbers_flat bs) refl
 
-module _ (hs os : List ℕ) (accepted : broken hs os ≡ 0) where
+module _ (hs os : List ℕ) (accepted : broken hs os ≡ None) where
   pub flow_is : joined (unequal (kept (boundaries hs os))) ≡ flow false 0 (boundaries hs os)
   flow_is = free (boundaries hs os) 0 (boundaries_rise hs os accepted)
 
   -- what the loops list is the list
-  pub numbers_are : numbers 0 (flow false 0 (boundaries hs os)) ≡ list hs os
-  numbers_are = numbers_flat 0 _ refl ∙ ap flat (sym flow_is)
+  pub numbers_are : numbers false (flow false 0 (boundaries hs os)) ≡ list hs os
+  numbers_are = numbers_flat _ ∙ ap flat (sym flow_is)

@@ -1,15 +1,17 @@
 -- Unpacking an accepted table gives a list whose membership is the table's at every number to 0x10FFFF: a pair of equal
 -- boundaries that is dropped, an end and the start after it that are joined, count twice or not at all, and the boundaries
 -- of the flat pairs are those that are left. Assumes nothing.
-use Rattle.std.specs.Prelude.{◌≡◌, ℕ, ◌+◌, ◌-◌, ◌%◌, ◌≤◌, eqb, List, [], ◌∷◌, length, take}
+use Rattle.std.specs.Prelude.{◌≡◌, ℕ, ◌+◌, ◌-◌, ◌%◌, ◌≤◌, eqb, List, [], ◌∷◌, length, take, None, Result, Ok}
 use mathlib.Core.Path.{◌∙◌, sym, refl, ap}
 use mathlib.Core.Logic.{⊎_elim}
 use native.Mathlib.Omega.{arith}
 use lib.Seq.{take_at}
+use Rattle.scalar.specs.declared.refusal.Refusal.{Refusal}
 use Rattle.sets.specs.Boundaries.{count, member}
 use Rattle.sets.specs.Lists.{ranges, bad_at, holds, edges}
 use Rattle.sets.specs.Buffers.{over}
-use Rattle.sets.proofs.Decide.{split, same}
+use Rattle.std.proofs.lemmas.Bool.{cases_eq}
+use Rattle.sets.proofs.Decide.{split}
 use Rattle.sets.proofs.Good.{rises}
 use Rattle.sets.proofs.Members.{count_none, count_in, count_out, member_holds}
 use Rattle.skip.specs.Table.{boundaries}
@@ -17,8 +19,6 @@ use Rattle.skip.specs.Rules.{broken}
 use Rattle.skip_rules.proofs.Stated.{Keeps, accepts_exactly}
 use Rattle.unpack.specs.Unpacking.{kept, unequal, joined, flat, list}
 use Rattle.unpack.specs.Answers.{unpacked_numbers, Unpacks}
-use Rattle.unpack.specs.declared.Unpacked.{Unpacked}
-use Rattle.unpack.specs.declared.Unpacked.TheVariants.{Done}
 use Rattle.unpack.proofs.Same.{kept_none, kept_in, kept_out, drops_none, drops_one, drops_same, drops_not, joined_from_lem}
 use Rattle.unpack.proofs.Apart.{Climbs, next, list_climbs, unpack_apart}
 use Rattle.unpack.proofs.Outcome.{done}
@@ -52,7 +52,7 @@ module _ (x : ℕ) (top : x ≤ 0x10FFFF) where
       (λ e.
       rw (drops_not a b bs e, count_cons a (b ∷ bs), count_cons b bs, count_cons a (b ∷ unequal bs), count_cons b (unequal bs))
       (omega (arith, unequal_counts bs)))
-      (same a b)
+      (cases_eq a b)
 
   joined_counts : (bs : List ℕ) → count x (joined bs) % 2 ≡ count x bs % 2
   joined_counts [] = refl
@@ -81,7 +81,7 @@ module _ (x : ℕ) (top : x ≤ 0x10FFFF) where
       (omega (arith, flat_counts (b + 1) bs z))
 
   -- some range of the unpacked list holds x exactly if the table does
-  pub unpack_same_set : (hs os : List ℕ) → broken hs os ≡ 0 → holds (list hs os) x ≡ member (boundaries hs os) x
+  pub unpack_same_set : (hs os : List ℕ) → broken hs os ≡ None → holds (list hs os) x ≡ member (boundaries hs os) x
   unpack_same_set hs os b =
       let left = kept (boundaries hs os) in
       let apart = unpack_apart hs os b in
@@ -93,13 +93,13 @@ module _ (x : ℕ) (top : x ≤ 0x10FFFF) where
 
 -- so from the unpacker's promise: a table that keeps the rules, in a buffer with room, is unpacked to a list that holds
 -- what the table does and has no range that 5 is given for
-pub record UnpacksKept (hs os : List ℕ) (r : Unpacked) (out' : List ℕ) : Type 0 where
-  pub accepts : r ≡ Done (length (list hs os))
+pub record UnpacksKept (hs os : List ℕ) (r : Result ℕ Refusal) (out' : List ℕ) : Type 0 where
+  pub accepts : r ≡ Ok (length (list hs os))
   pub writes : take (unpacked_numbers r) out' ≡ list hs os
   pub same_set : (x : ℕ) → x ≤ 0x10FFFF → holds (take (unpacked_numbers r) out') x ≡ member (boundaries hs os) x
   pub apart : bad_at 0 0 (take (unpacked_numbers r) out') ≡ ranges (take (unpacked_numbers r) out')
 
-kept_by : (hs os out : List ℕ) (r : Unpacked) (out' : List ℕ) → broken hs os ≡ 0 → r ≡ Done (length (list hs os))
+kept_by : (hs os out : List ℕ) (r : Result ℕ Refusal) (out' : List ℕ) → broken hs os ≡ None → r ≡ Ok (length (list hs os))
     → out' ≡ over (list hs os) out → UnpacksKept hs os r out'
 kept_by hs os out r out' b e eo =
     let t : take (unpacked_numbers r) out' ≡ list hs os = rw (e, eo) (take_at (list hs os) _ (length (list hs os)) refl) in
@@ -110,7 +110,7 @@ kept_by hs os out r out' b e eo =
       apart = rw t (unpack_apart hs os b).1;
     }
 
-pub unpacks_kept : (hs os out : List ℕ) (r : Unpacked) (out' : List ℕ) → Unpacks hs os out r out' → Keeps hs os
+pub unpacks_kept : (hs os out : List ℕ) (r : Result ℕ Refusal) (out' : List ℕ) → Unpacks hs os out r out' → Keeps hs os
     → length (list hs os) ≤ length out → UnpacksKept hs os r out'
 unpacks_kept hs os out r out' p k room =
     let b = (accepts_exactly hs os).1 k in

@@ -1,11 +1,14 @@
 -- How much room an unpacked list may need, so that a caller can size the buffer before the call: one boundary for each
 -- offset, dropping and joining add none, and only an open last pair adds a number. Assumes nothing.
-use Rattle.std.specs.Prelude.{ℕ, ◌+◌, ◌≤◌, List, [], ◌∷◌, length}
+use Rattle.std.specs.Prelude.{◌≡◌, None, ℕ, ◌+◌, ◌≤◌, List, [], ◌∷◌, length}
 use mathlib.Core.Logic.{⊎_elim}
 use native.Mathlib.Omega.{arith}
-use Rattle.sets.proofs.Decide.{split, same}
+use Rattle.std.proofs.lemmas.Bool.{cases_eq}
+use Rattle.sets.proofs.Decide.{split}
 use Rattle.skip.specs.Headers.{prefix_sum, run_end}
 use Rattle.skip.specs.Table.{walk, boundaries}
+use Rattle.skip.specs.Rules.{W1, W2, W3, W4, W5, broken}
+use Rattle.skip.proofs.Lowest5.{all, few_offsets}
 use Rattle.skip.proofs.Meaning.{walk_last, walk_on}
 use Rattle.unpack.specs.Unpacking.{kept, unequal, joined, flat, list}
 use Rattle.unpack.proofs.Rising.{walk_none, walk_bare}
@@ -18,7 +21,7 @@ walk_few n (o ∷ os) i at (h ∷ hs) =
     ⊎_elim
     (λ e. rw (walk_last n i at h o hs os e) (omega (arith, walk_few n os (i + 1) (prefix_sum h) hs)))
     (λ e. rw (walk_on n i at h o hs os e) (omega (arith, walk_few n os (i + 1) (at + o) (h ∷ hs))))
-    (same (i + 1) (run_end n hs))
+    (cases_eq (i + 1) (run_end n hs))
 
 kept_few : (bs : List ℕ) → length (kept bs) ≤ length bs
 unfolding kept
@@ -37,7 +40,7 @@ unequal_few (a ∷ (b ∷ bs)) =
     ⊎_elim
     (λ e. rw (drops_same a b bs e) (omega (arith, unequal_few bs)))
     (λ e. rw (drops_not a b bs e) (omega (arith, unequal_few bs)))
-    (same a b)
+    (cases_eq a b)
 
 joined_few : (bs : List ℕ) → length (joined bs) ≤ length bs
 joined_few [] = omega arith
@@ -55,3 +58,7 @@ numbers_suffice hs os =
     let left = kept (boundaries hs os) in
     omega
     (arith, flat_few (joined (unequal left)), joined_few (unequal left), unequal_few left, kept_few (boundaries hs os), walk_few (length os) os 0 0 hs)
+
+-- by W1 a table that keeps the rules has at most 2,048 offsets
+pub few : (hs os : List ℕ) → broken hs os ≡ None → length os ≤ 2048
+few hs os b = few_offsets hs os (all (W1 hs os) (W2 hs) (W3 (length os) hs) (W4 0 hs) (W5 (length os) 0 0 hs os) b).0

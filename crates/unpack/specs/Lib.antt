@@ -1,3 +1,4 @@
 pub mod Unpacking
 pub mod Flow
+pub mod Left
 pub mod Answers

@@ -16,11 +16,8 @@ pub enum Arm {
     Mapped(u8, u64),
 }
 
-/// Where a function stands: its crate, and the file there.
+/// Where a function stands: its crate, and the file there, with its `impl` after `::`.
 pub type Place<'a> = (&'a str, &'a str);
-
-/// The definitions that a proof opens: a module, and its names, with spaces between.
-pub type Opened = (String, &'static str);
 
 pub struct Accessor {
     pub says: &'static str,
@@ -29,7 +26,8 @@ pub struct Accessor {
     pub requires: &'static str,
     /// The antt function of the index that is answered.
     pub answers: &'static str,
-    pub opened: Vec<Opened>,
+    /// The definitions that its proof opens.
+    pub opens: Vec<String>,
     pub arms: Vec<Arm>,
 }
 
@@ -39,14 +37,43 @@ pub fn eights(bytes: &[u8]) -> Vec<Arm> {
     bytes.chunks(8).map(|bytes| Arm::Number(word(bytes))).collect()
 }
 
-/// A function of one number that is a `match`, for its own crate: its clauses, its arms, and what any other number gives.
-pub fn function(says: &str, head: &str, clauses: &[String], arms: &[String], other: &str) -> String {
+/// A function of one number that is a `match`, for its own crate: the definitions that its proof opens, its clauses, its arms, and
+/// what any other number gives.
+pub fn function(
+    says: &str,
+    head: &str,
+    opens: &[String],
+    clauses: &[String],
+    arms: &[String],
+    other: &str,
+) -> String {
+    let opens = format!("#[tactic(auto, unfolding({}))]\n", opens.join(", "));
     let (_, argument) = head.split_once('(').expect("an argument");
     let (argument, _) = argument.split_once(':').expect("the argument's type");
     let clauses: String = clauses.iter().map(|clause| format!("    {clause}\n")).collect();
     let arms: String = arms.iter().map(|arm| format!("        {arm},\n")).collect();
     format!(
-        "\n// {says}\npub(crate) fn {head}\n{clauses}{{\n    match {argument} {{\n{arms}        _ => {other},\n    }}\n}}\n"
+        "\n// {says}\n{opens}pub(crate) fn {head}\n{clauses}{{\n    match {argument} {{\n{arms}        _ => {other},\n    }}\n}}\n"
+    )
+}
+
+/// The same as a method, whose clauses are its trait's: the definitions that its proof opens, its arms, and what any other number
+/// gives, or every number where there are no arms.
+pub fn method(head: &str, opens: &[String], arms: &[String], other: &str) -> String {
+    if arms.is_empty() {
+        return plain(&head.replacen('(', "(_", 1), opens, other);
+    }
+    let (_, argument) = head.split_once('(').expect("an argument");
+    let (argument, _) = argument.split_once(':').expect("the argument's type");
+    let arms: String = arms.iter().map(|arm| format!("            {arm},\n")).collect();
+    plain(head, opens, &format!("match {argument} {{\n{arms}            _ => {other},\n        }}"))
+}
+
+/// A method that is one expression.
+fn plain(head: &str, opens: &[String], body: &str) -> String {
+    format!(
+        "\n    #[tactic(auto, unfolding({}))]\n    fn {head} {{\n        {body}\n    }}\n",
+        opens.join(", ")
     )
 }
 
@@ -61,19 +88,9 @@ pub fn ensures(fact: &str) -> String {
 /// A goal's name, as it follows `returns-`, and what answers it.
 pub type Answer = (String, String);
 
-/// What answers the goal of an arm: a term that takes what is known of the number there.
-pub fn at_arm(key: impl std::fmt::Display, term: &str) -> Answer {
-    (format!("in-{key}"), format!("{term} c.in-{key}.is"))
-}
-
 /// What answers the goal of the last arm: a term with what is known of the number there in the place of `{}`.
 pub fn at_last(term: &str) -> Answer {
     ("in_default".to_string(), term.replace("{}", "c.in_default.in_default-own.rest"))
-}
-
-/// What answers it where so many arms are all that an index reaches.
-pub fn at_unreached(arms: usize) -> Answer {
-    at_last(&format!("absurd (omega (arith, none_below {arms} {{}}))"))
 }
 
 /// The proof of such a function of a crate's file, and its path: what it meets, what it cites, what it opens, an answer for
@@ -95,9 +112,10 @@ pub fn proof(
     let text = format!(
         "-- Generated from {source} by `oracle/make`; do not edit.\n\
         -- `{krate}::{file}::{name}` meets its contract: {says}. Assumes nothing.\n\
-        {cites}use Rattle.{krate}.proofs.{file}.{name}.Goals as goal\n{answers}"
+        {cites}use Rattle.{krate}.proofs.{}.{name}.Goals as goal\n{answers}",
+        file.replace("::", ".")
     );
-    (format!("crates/{krate}/proofs/{file}/{name}/Answers.antt"), text)
+    (format!("crates/{krate}/proofs/{}/{name}/Answers.antt", file.replace("::", "/")), text)
 }
 
 /// The constant that the last arms name.
@@ -124,45 +142,19 @@ impl Accessor {
         };
         let arms: Vec<String> = self.arms.iter().enumerate().map(arm).collect();
         let clauses = [requires(self.requires), ensures(&format!("result ≡ {answers} {index}"))];
-        function(says, &format!("{name}({index}: usize) -> u64"), &clauses, &arms, "UNREACHED")
-    }
-
-    /// Each arm answers what its index does. The first call of `mapped` is named by itself, the others by their arms too.
-    pub fn proof(&self, source: &str, place: Place) -> File {
-        let Accessor { name, answers, .. } = self;
-        let is_mapped = |arm: &Arm| matches!(arm, Arm::Mapped(..));
-        let first = self.arms.iter().position(is_mapped);
-        let arm = |(k, arm): (usize, &Arm)| {
-            let call = match arm {
-                Arm::Number(_) => String::new(),
-                Arm::Mapped(..) if first == Some(k) => "c.mapped.ensures ∙ ".to_string(),
-                Arm::Mapped(..) => format!("c.mapped-in-{k}.ensures ∙ "),
-            };
-            at_arm(k, &format!("{call}arm ({answers})"))
-        };
-        let mut answered: Vec<Answer> = self.arms.iter().enumerate().map(arm).collect();
-        answered.push(at_unreached(self.arms.len()));
-        let of_calls = if first.is_some() { "use mathlib.Core.Path.{◌∙◌}\n" } else { "" };
-        let uses = |(module, names): &Opened| format!("use {module}.{{{}}}\n", names.replace(' ', ", "));
-        let opened: String = self.opened.iter().map(uses).collect();
-        let cites = format!(
-            "{of_calls}use native.Mathlib.Omega.{{arith}}\n\
-            use Rattle.sets.proofs.Arms.{{arm, NoneBelow, none_below}}\n{opened}"
-        );
-        let unfolded: Vec<&str> = self.opened.iter().map(|&(_, names)| names).collect();
-        let opens = unfolded.join(" ") + " NoneBelow";
-        proof(source, place, name, "an arm for each index", &cites, &opens, &answered)
+        let head = format!("{name}({index}: usize) -> u64");
+        function(says, &head, &self.opens, &clauses, &arms, "UNREACHED")
     }
 }
 
-/// The numbers of each arm of a function, the index first, but for the last arm; none where there is no such function.
+/// The numbers of each arm of a function, the index first, but for the last arm; none where there is no such function, or no arm.
 pub fn read(text: &str, name: &str) -> Vec<Vec<u64>> {
-    let Some((_, body)) = text.split_once(&format!("\npub(crate) fn {name}(")) else {
+    let Some((_, body)) = text.split_once(&format!(" fn {name}(")) else {
         return Vec::new();
     };
-    let (arms, _) = body.split_once("\n        _ => ").expect("the last arm");
+    let after_arms = |line: &&str| line.trim_start().starts_with("_ =>") || line.contains(" fn ");
     let mut read: Vec<Vec<u64>> = Vec::new();
-    for line in arms.lines() {
+    for line in body.lines().take_while(|line| !after_arms(line)) {
         if line.contains(" => ") {
             read.push(Vec::new());
         }

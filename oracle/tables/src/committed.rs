@@ -53,6 +53,13 @@ impl Crate<'_> {
         unsigned(source::numbers(source::item(&self.table, name)))
     }
 
+    /// What the table says of a plane: the `impl` of its type.
+    fn plane(&self, plane: &str) -> &str {
+        let head = format!("\nimpl Plane<{plane}> for ");
+        let (_, text) = self.table.split_once(&head).expect("the plane");
+        text.split_once("\n}\n").expect("the end of the `impl`").0
+    }
+
     /// The lists of specs/, in this order, one after the other.
     fn lists(&self, names: &[String]) -> Vec<u64> {
         names.iter().flat_map(|name| list(&self.specs, &crate::files::snake(name))).collect()
@@ -192,10 +199,11 @@ fn printables(root: &Path, data: &Data) -> bool {
 
 fn planes(table: &Crate) -> rows::Planes {
     ["0", "1"].map(|plane| {
-        let fours = arms::answers(&table.table, &format!("rows{plane}")).concat();
+        let text = table.plane(plane);
+        let fours = arms::answers(text, "four").concat();
         let words: Vec<u64> = fours.into_iter().filter(|&word| word != 0).collect();
         let field = |low: u32| words.iter().map(|word| word >> low & 0xFFFF).collect::<Vec<u64>>();
-        let multis = arms::read(&table.table, &format!("multi{plane}"));
+        let multis = arms::read(text, "multi");
         let of_multis = |at: usize| narrow(multis.iter().map(|row| row[at] & 0xFFFF).collect());
         rows::Plane {
             starts: narrow(field(0)),
@@ -208,14 +216,10 @@ fn planes(table: &Crate) -> rows::Planes {
     })
 }
 
-/// The ends that are halved are the lists of specs/: in an array, or behind a `match`.
+/// The ends that are halved are the lists of specs/.
 fn ends_same(table: &Crate) -> bool {
-    let ends = |plane: &str| {
-        let array = table.constant(&format!("ENDS{plane}"));
-        let arms = arms::answers(&table.table, &format!("end{plane}")).concat();
-        [array, arms].concat()
-    };
-    table.same_numbers(["0", "1"].iter().flat_map(|plane| ends(plane)).collect(), &of_planes("ENDS#"))
+    let ends = |plane: &&str| arms::answers(table.plane(plane), "end").concat();
+    table.same_numbers(["0", "1"].iter().flat_map(ends).collect(), &of_planes("ENDS#"))
 }
 
 /// The rows' words and the pages are the lists of specs/.
@@ -227,19 +231,14 @@ fn arms_same(table: &Crate, planes: &rows::Planes) -> bool {
         [single.concat(), plane.multi.clone(), first, second, third].concat()
     };
     let rows: Vec<u64> = planes.iter().flat_map(numbers).map(u64::from).collect();
-    let listed: Vec<String> = ["0", "1"]
-        .iter()
-        .filter(|plane| table.specs.contains(&format!("\npages{plane} =")))
-        .map(|plane| format!("pages{plane}"))
-        .collect();
     let pages: Vec<u64> =
-        ["page0", "page1"].iter().flat_map(|name| arms::read(&table.table, name).concat()).collect();
+        ["0", "1"].iter().flat_map(|plane| arms::read(table.plane(plane), "page").concat()).collect();
     compare::list(
         &format!("{}, rows against specs", table.name),
         rows,
         &table
             .lists(&of_planes("STARTS# ENDS# STEPS# DELTAS# MULTI# MULTI#_FIRST MULTI#_SECOND MULTI#_THIRD")),
-    ) & compare::list(&format!("{}, pages against specs", table.name), pages, &table.lists(&listed))
+    ) & compare::list(&format!("{}, pages against specs", table.name), pages, &table.lists(&of_planes("pages#")))
 }
 
 fn casing(root: &Path, data: &Data, name: &str) -> bool {

@@ -24,7 +24,7 @@ pub fn wide<T: Into<u64> + Copy>(numbers: &[T]) -> Vec<u64> {
     numbers.iter().map(|&number| number.into()).collect()
 }
 
-/// A file of Rattle constants and of functions that read like them.
+/// A file of Rattle statics, and of functions that read like them. A constant array would be built anew at each use.
 pub struct Consts(String);
 
 impl Consts {
@@ -40,7 +40,7 @@ impl Consts {
         assert!(!numbers.is_empty(), "{name} would be empty");
         self.comment(says);
         let elements: Vec<String> = numbers.iter().map(|&number| form.write(number)).collect();
-        let head = format!("pub const {name}: [{kind}; {}] = [", numbers.len());
+        let head = format!("pub static {name}: [{kind}; {}] = [", numbers.len());
         let line = elements.join(", ");
         // `rt fmt` keeps an array of at most 60 columns in a line, and otherwise fills lines of 99 with short elements.
         if line.len() <= 60 && head.len() + line.len() + 2 <= 100 {

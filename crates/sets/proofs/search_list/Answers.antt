@@ -1,23 +1,24 @@
--- `sets::search_list` meets its contract: a refusal of the check is its own, then the number is tested. Assumes nothing.
-use Rattle.std.specs.Prelude.{◌<◌, ◌≤◌}
+-- `sets::search_list` meets its contract: a refusal of either check is its own. Assumes nothing.
+use Rattle.std.proofs.Common.{Ok, Err}
 use mathlib.Core.Path.{◌∙◌, ap}
-use native.Mathlib.Omega.{arith}
-use borrow.Author.Tests.{lt-ltb, le-ltb}
-use Rattle.scalar.specs.declared.Answer.TheVariants as answer
-use Rattle.sets.specs.Answers.{list_refusal}
+use Rattle.std.proofs.lemmas.Result.{err_from_is_err_and}
+use Rattle.scalar.proofs.Points.{point_refused, point_good, point_value}
+use Rattle.sets.specs.Lists.{holds}
 use Rattle.sets.proofs.Answers.{refused_as, accepted_as}
 use Rattle.sets.proofs.search_list.Goals as goal
 
-pub returns-in_default : goal.returns-in_default
-returns-in_default c =
-    rw (c.refusal.ensures ∙ ap list_refusal c.in_default.is) (refused_as _ answer.Refused _ _ c.in_default.ensures)
+pub returns-in_err-check_list : goal.returns-in_err-check_list
+returns-in_err-check_list c =
+    let p = err_from_is_err_and c.from_residual.result c.from_residual.ensures.1 in
+    rw (p.1, p.2) (refused_as _ Err _ _ c.in_err-check_list.ensures)
 
-pub returns-then-x-gt-MAX : goal.returns-then-x-gt-MAX
-returns-then-x-gt-MAX c =
-    let above : 0x10FFFF < c.args.x = omega arith in
-    accepted_as _ answer.Refused _ _ _ c.in-Ranges.ensures (simp (lt-ltb 0x10FFFF _ above))
+pub returns-in_err-point : goal.returns-in_err-point
+returns-in_err-point c =
+    let p = err_from_is_err_and c.from_residual-in_err-point.result c.from_residual-in_err-point.ensures.1 in
+    rw (p.1, p.2) (accepted_as _ Err _ _ _ c.in_ok-check_list.ensures (point_refused _ Err _ _ c.in_err-point.ensures))
 
 pub returns : goal.returns
 returns c =
-    let inside : c.args.x ≤ 0x10FFFF = omega (arith, c.if-x-gt-MAX.false) in
-    accepted_as _ answer.Refused _ _ _ c.in-Ranges.ensures (simp (le-ltb 0x10FFFF _ inside, c.list_holds.ensures))
+    let l = c.args.list.now in
+    let told = ap Ok (c.list_holds.ensures ∙ ap (holds l) (point_value _ _ c.in_ok-point.ensures)) in
+    accepted_as _ Err _ _ _ c.in_ok-check_list.ensures (point_good _ _ _ _ _ c.in_ok-point.ensures told)

@@ -1,6 +1,6 @@
 //! The mappings: rows and multi rows of two planes.
 
-use super::{accessors, of_rust, of_unicode, snake, File, Inputs, DECIMAL, UNICODE_DATA};
+use super::{accessors, of_rust, of_unicode, File, Inputs, DECIMAL, UNICODE_DATA};
 use crate::layout::{wide, Consts, Form, Lists, POINT};
 use crate::{rows, source};
 use reference::counts::{counts, Counts};
@@ -37,25 +37,21 @@ fn assert_mapping(
     }
 }
 
-/// So many numbers at most are lent to a search as an array, which is built anew at each call; more stand behind a `match`.
-const LENT: usize = 32;
-
-/// Comment, name with # for the plane, whether it is an array too, form and numbers of each list. What
-/// is no array is behind a `match`.
-type Field = (&'static str, &'static str, bool, Form, Vec<u64>);
+/// Comment, name with # for the plane, form and numbers of each list.
+type Field = (&'static str, &'static str, Form, Vec<u64>);
 
 fn fields(plane: &rows::Plane) -> [Field; 8] {
-    let list = |says, name, numbers: &[u16]| (says, name, false, Form::Hex(4), wide(numbers));
+    let list = |says, name, numbers: &[u16]| (says, name, Form::Hex(4), wide(numbers));
     let parity = "rows: 2 where only numbers of the start's parity are covered, else 1";
     [
-        list("rows: the first number of each", "STARTS#", &plane.starts),
-        ("rows: the last number of each", "ENDS#", plane.ends.len() <= LENT, Form::Hex(4), wide(&plane.ends)),
-        (parity, "STEPS#", false, DECIMAL, wide(&plane.steps)),
-        list("rows: what is added to the low 16 bits, wrapping", "DELTAS#", &plane.deltas),
-        list("multi rows: the number mapped", "MULTI#", &plane.multi),
-        list("multi rows: the first number of the answer", "MULTI#_FIRST", &plane.to[0]),
-        list("multi rows: the second number of the answer", "MULTI#_SECOND", &plane.to[1]),
-        list("multi rows: the third number of the answer, or 0", "MULTI#_THIRD", &plane.to[2]),
+        list("rows: the first number of each", "starts#", &plane.starts),
+        list("rows: the last number of each", "ends#", &plane.ends),
+        (parity, "steps#", DECIMAL, wide(&plane.steps)),
+        list("rows: what is added to the low 16 bits, wrapping", "deltas#", &plane.deltas),
+        list("multi rows: the number mapped", "multi#", &plane.multi),
+        list("multi rows: the first number of the answer", "multi#_first", &plane.to[0]),
+        list("multi rows: the second number of the answer", "multi#_second", &plane.to[1]),
+        list("multi rows: the third number of the answer, or 0", "multi#_third", &plane.to[2]),
     ]
 }
 
@@ -74,38 +70,19 @@ pub fn casing(inputs: &Inputs, name: &str, lut: &str, list: &str) -> Vec<File> {
 
     let krate = format!("casing_{name}");
     let mut consts = Consts::new(&of_rust(UNICODE_DATA));
-    let behind_match = |plane: &rows::Plane| plane.ends.len() > LENT;
-    accessors::uses(&mut consts, &krate, planes.iter().any(behind_match));
+    accessors::uses(&mut consts, &krate);
     let mut proofs = Vec::new();
     let mut specs = Lists::new(&of_rust(UNICODE_DATA));
     for (p, plane) in planes.iter().enumerate() {
-        for (rows, left_out) in [(&plane.starts, "rows"), (&plane.multi, "multi rows")] {
-            if rows.is_empty() {
-                consts.comment(&format!("plane {p} has no {left_out}"));
-            }
+        for (says, name, form, numbers) in fields(plane) {
+            specs.add(&format!("plane {p}, {says}"), &name.replace('#', &p.to_string()), form, 1, &numbers);
         }
-        for (says, constant, array, form, numbers) in fields(plane) {
-            let constant = constant.replace('#', &p.to_string());
-            let says = format!("plane {p}, {says}");
-            if array && !numbers.is_empty() {
-                consts.add(&says, &constant, "u16", form, &numbers);
-            }
-            specs.add(&says, &snake(&constant), form, 1, &numbers);
-        }
-        if behind_match(plane) {
-            proofs.push(accessors::ends(&mut consts, &krate, p, plane));
-        }
-        if !plane.multi.is_empty() {
-            proofs.push(accessors::multis(&mut consts, &krate, p, plane));
-        }
-        if !plane.starts.is_empty() {
-            proofs.push(accessors::rows(&mut consts, &krate, p, plane));
-            proofs.push(accessors::pages(&mut consts, &krate, p, plane));
-            let says =
-                format!("plane {p}: each page that has rows, with its single rows from the first index to before the second");
-            let pages: Vec<u64> = plane.pages().concat().iter().map(|&number| number as u64).collect();
-            specs.add(&says, &format!("pages{p}"), DECIMAL, 3, &pages);
-        }
+        let says =
+            format!("plane {p}: each page that has rows, with its single rows from the first index to before the second");
+        let pages: Vec<u64> = plane.pages().concat().iter().map(|&number| number as u64).collect();
+        specs.add(&says, &format!("pages{p}"), DECIMAL, 3, &pages);
+        accessors::plane(&mut consts, p, plane);
+        proofs.extend(accessors::no_multi(&krate, p, plane));
     }
     let numbers: Vec<u64> =
         unicode.iter().flat_map(|(&from, to)| [from, to[0], to[1], to[2]].map(u64::from)).collect();

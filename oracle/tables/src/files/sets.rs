@@ -83,7 +83,7 @@ pub fn marks(inputs: &Inputs, property: &str, module: &str) -> Vec<File> {
         index: "k",
         requires: "k < length marks",
         answers: "marks_at marks",
-        opened: vec![("Rattle.bitset.specs.Marks".to_string(), "marks_at"), (lists.clone(), "marks")],
+        opens: opened(&[("bitset::specs::Marks", "marks_at"), ("crate::specs::Marks", "marks")]),
         arms: words.iter().copied().map(Arm::Number).collect(),
     };
     let mut code = Consts::new(&of_rust(UNICODE_DATA));
@@ -97,7 +97,6 @@ pub fn marks(inputs: &Inputs, property: &str, module: &str) -> Vec<File> {
     vec![
         (format!("crates/{folder}/src/marks.rt"), code.text()),
         (format!("crates/{folder}/specs/Marks.antt"), specs.text()),
-        accessor.proof(&of_rust(UNICODE_DATA), (&folder, "marks")),
     ]
 }
 
@@ -122,20 +121,27 @@ pub fn bitset(inputs: &Inputs, property: &str, comment: &str) -> Vec<File> {
         specs.add(says, name, form, group, &numbers);
     }
     let folder = format!("table_{property}");
-    let accessors = accessors(&table, &folder);
+    let accessors = accessors(&table);
     let mut files = vec![
         (format!("crates/{folder}/src/table.rt"), bitset_code(&table, &folder, &accessors)),
         (format!("crates/{folder}/specs/Table.antt"), specs.text()),
     ];
-    files.extend(accessors.iter().map(|accessor| accessor.proof(&of_rust(UNICODE_DATA), (&folder, "table"))));
     files.extend(flat_and_unicode(&format!("crates/{folder}"), property, &list, &flat, &unicode));
     files
 }
 
+/// The paths of definitions that a proof opens, from a module's path and its names, with spaces between.
+fn opened(parts: &[(&str, &str)]) -> Vec<String> {
+    parts
+        .iter()
+        .flat_map(|(module, names)| names.split(' ').map(move |name| format!("{module}::{name}")))
+        .collect()
+}
+
 /// A bitset's tables as functions. Their names are read back by `committed`.
-fn accessors(table: &Bitset, folder: &str) -> [Accessor; 3] {
-    let lists = |names| (format!("Rattle.{folder}.specs.Table"), names);
-    let packed = || ("Rattle.bitset.specs.Packed".to_string(), "eight joined");
+fn accessors(table: &Bitset) -> [Accessor; 3] {
+    const LISTS: &str = "crate::specs::Table";
+    const PACKED: (&str, &str) = ("bitset::specs::Packed", "eight joined");
     let pairs = table.mapped_word.iter().zip(&table.mapping);
     let mapped = pairs.map(|(&word, &mapping)| Arm::Mapped(mapping, table.canonical[word as usize]));
     [
@@ -145,7 +151,7 @@ fn accessors(table: &Bitset, folder: &str) -> [Accessor; 3] {
             index: "k",
             requires: "8 * k < length chunk_map",
             answers: "eight chunk_map",
-            opened: vec![packed(), lists("chunk_map")],
+            opens: opened(&[PACKED, (LISTS, "chunk_map")]),
             arms: arms::eights(&table.chunk_map),
         },
         Accessor {
@@ -154,7 +160,7 @@ fn accessors(table: &Bitset, folder: &str) -> [Accessor; 3] {
             index: "k",
             requires: "8 * k < length chunks",
             answers: "eight chunks",
-            opened: vec![packed(), lists("chunks")],
+            opens: opened(&[PACKED, (LISTS, "chunks")]),
             arms: arms::eights(&table.chunks),
         },
         Accessor {
@@ -163,10 +169,10 @@ fn accessors(table: &Bitset, folder: &str) -> [Accessor; 3] {
             index: "index",
             requires: "index < length canonical + length mapped_word",
             answers: "word_at canonical mapped_word mapping",
-            opened: vec![
-                ("Rattle.bitset.specs.Bitsets".to_string(), "word_at"),
-                lists("canonical mapped_word mapping"),
-            ],
+            opens: opened(&[
+                ("bitset::specs::Bitsets", "word_at"),
+                (LISTS, "canonical mapped_word mapping"),
+            ]),
             arms: table.canonical.iter().copied().map(Arm::Number).chain(mapped).collect(),
         },
     ]

@@ -7,8 +7,8 @@ use Rattle.casing.proofs.Pages.{said}
 use Rattle.casing_lower.proofs.Same.{unicode}
 use Rattle.casing_lower.proofs.kernel.to_lower.Goals as goal
 
-pub returns-in_default : goal.returns-in_default
-returns-in_default c = said _ _ _ (sym c.in_default.is) c.by_rows.ensures _ ∙ unicode _ _ (c.new.ensures ∙ ap (λ (z : ℕ). made z 0 0) c.to_ascii_lowercase.ensures)
+pub returns-in-None : goal.returns-in-None
+returns-in-None c = said _ _ _ (sym c.in-None.is) c.from_floor.ensures _ ∙ unicode _ _ (c.new-in-None.ensures ∙ ap (λ (z : ℕ). made z 0 0) c.to_ascii_lowercase.ensures)
 
-pub returns : goal.returns
-returns c = c.new-2.ensures ∙ said _ _ _ (sym c.in-To.is) c.by_rows.ensures _ ∙ unicode _ _ refl
+pub returns-in-Some : goal.returns-in-Some
+returns-in-Some c = c.new.ensures ∙ said _ _ _ (sym c.in-Some.is) c.from_floor.ensures _ ∙ unicode _ _ refl

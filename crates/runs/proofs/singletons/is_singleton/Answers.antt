@@ -1,44 +1,28 @@
--- `runs::singletons::is_singleton` meets its contract. The invariant: all pairs list the byte pair exactly if those left
--- do, with the low bytes left. The measure is the pairs left. Assumes nothing.
-use mathlib.Core.Path.{◌∙◌, sym, refl}
-use Rattle.runs.proofs.Pairs.{no_high, no_count, turn_yes, turn_no}
-use borrow.Author.Rules.{rules}
+-- `runs::singletons::is_singleton` meets its contract: a turn takes one pair and its low bytes off. Assumes nothing.
+use Rattle.std.proofs.Common.{◌∙◌, sym, eq-eqb, ne_eqb, ◌/◌, ◌%◌}
+use Rattle.std.proofs.lemmas.Slice.Zip.{Zip-more, either_empty_from_Zip}
+use Rattle.runs.proofs.Pairs.{turn, over}
 use Rattle.runs.proofs.singletons.is_singleton.Goals as goal
+use Rattle.runs.proofs.singletons.is_singleton.Goals.{else-of-high-via-then-of-high+else-contains, else-of-high-via-else-of-high}
 
-pub loop-k-init : goal.loop-k-init
-loop-k-init c = (search rules, search rules, refl)
+pub returns-then-contains : goal.returns-then-contains
+returns-then-contains c =
+    let z = Zip-more c.loop-of.of-iterator c.next.new.self _ _ c.in-Some.is c.next.ensures.steps in
+    let t = turn (c.args.x / 256) (c.args.x % 256) _ z.0 z.1 c.from.ensures c.min.ensures c.split_at.ensures.front c.split_at.ensures.back in
+    sym (c.loop-of.invariant.2 ∙ t ∙ simp (eq-eqb _ _ c.if-of-high.true, ← c.contains.ensures.value, c.if-contains.true))
 
-pub returns-then-counts-k : goal.returns-then-counts-k
-returns-then-counts-k c =
-    let turn = c in
-    let a = turn.args in
-    no_count a.highs.now a.counts.now a.lows.now _ _ turn.loop-k.k turn.loop-k.start c.loop-k-test.true c.if-counts-k.true
-    ∙ sym turn.loop-k.invariant.2
-
-pub returns-then-pair_lists : goal.returns-then-pair_lists
-returns-then-pair_lists c =
-    let ended = c in
-    let turn = ended in
-    let a = turn.args in
-    turn_yes a.highs.now a.counts.now a.lows.now _ _ turn.loop-k.k turn.loop-k.start
-    ended.loop-k-test.true ended.if-counts-k.false turn.loop-k.invariant.0 ended.end_of-end.ensures.0
-    c.pair_lists.ensures c.if-pair_lists.true
-    ∙ sym turn.loop-k.invariant.2
-
-pub loop-k-preserved : goal.loop-k-preserved
-loop-k-preserved c =
-    let ended = c in
-    let turn = ended in
-    let a = turn.args in (
-      ended.end_of-end.ensures.2,
-      search rules,
-      turn.loop-k.invariant.2 ∙ turn_no a.highs.now a.counts.now a.lows.now _ _ turn.loop-k.k turn.loop-k.start
-          ended.loop-k-test.true ended.if-counts-k.false turn.loop-k.invariant.0 ended.end_of-end.ensures.0
-          c.pair_lists.ensures c.if-pair_lists.false,
+pub loop-of-preserved : goal.loop-of-preserved
+loop-of-preserved c =
+    let z = Zip-more c.loop-of.of-iterator c.next.new.self _ _ c.in-Some.is c.next.ensures.steps in
+    let t = turn (c.args.x / 256) (c.args.x % 256) _ z.0 z.1 c.from.ensures c.min.ensures c.split_at.ensures.front c.split_at.ensures.back in (
+      c.loop-of.invariant.0,
+      tt,
+      c.loop-of.invariant.2 ∙ t ∙ elim c.else-of-high.branch [
+        | else-of-high-via-then-of-high+else-contains w ↦ simp (eq-eqb _ _ w.if-of-high.true, ← w.contains.ensures.value, w.if-contains.false)
+        | else-of-high-via-else-of-high w ↦ simp (ne_eqb _ _ w.if-of-high.false)
+      ],
     )
 
 pub returns : goal.returns
 returns c =
-    let turn = c in
-    let a = turn.args in
-    no_high a.highs.now a.counts.now a.lows.now _ _ turn.loop-k.k turn.loop-k.start c.loop-k-test.false ∙ sym turn.loop-k.invariant.2
+    sym (c.loop-of.invariant.2 ∙ over _ _ _ _ _ (either_empty_from_Zip c.loop-of.of-iterator c.next.new.self _ c.in-None.is c.next.ensures.steps))

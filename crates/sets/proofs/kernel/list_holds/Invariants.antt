@@ -1,11 +1,10 @@
--- `sets::kernel::list_holds` meets its contract. The invariant: what the ranges from `at` on say is what the whole list
--- says, since those before it do not hold x. The measure is what is left of the list. Assumes nothing.
-use Rattle.std.specs.Prelude.{◌≡◌, ◌-◌, ◌≤◌, length, drop}
+-- What is left of the list says what the whole list says, since the ranges before it do not hold x. Assumes nothing.
+use Rattle.std.proofs.Common.{◌≡◌, length}
 use Rattle.sets.specs.Lists.{holds}
 use Rattle.sets.proofs.kernel.list_holds.Given as goal
 
-abbrev pub invariant-loop-at : goal.invariant-loop-at
-invariant-loop-at l = (l.at ≤ length l.list) × (holds l.list l.x ≡ holds (drop l.at l.list) l.x)
+abbrev pub invariant-loop-rest : goal.invariant-loop-rest
+invariant-loop-rest l = holds l.list l.x ≡ holds l.rest l.x
 
-abbrev pub decreases-loop-at : goal.decreases-loop-at
-decreases-loop-at l = length l.list - l.at
+abbrev pub decreases-loop-rest : goal.decreases-loop-rest
+decreases-loop-rest l = length l.rest

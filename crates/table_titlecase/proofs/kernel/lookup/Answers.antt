@@ -1,4 +1,4 @@
--- `table_titlecase::kernel::lookup` meets its contract: the constants that it lends are the table's lists. Assumes nothing.
+-- `table_titlecase::kernel::lookup` meets its contract: the statics that it lends are the table's lists. Assumes nothing.
 use mathlib.Core.Path.{◌∙◌}
 use borrow.Author.Rules.{rules}
 use Rattle.table_titlecase.specs.Table.{headers, offsets}
@@ -7,7 +7,7 @@ use Rattle.table_titlecase.proofs.kernel.lookup.Goals as goal
 
 pub skip_search-requires : goal.skip_search-requires
 unfolding headers offsets
-skip_search-requires c = (table_keeps, search rules)
+skip_search-requires c = table_keeps
 
 pub returns : goal.returns
 unfolding headers offsets

@@ -1,0 +1,10 @@
+-- `table_uppercase::kernel::UppercaseTables::chunk_at` meets its contract: the word read holds the byte. Assumes nothing.
+use mathlib.Core.Path.{refl}
+use Rattle.bitset.specs.Bitsets.{all_below}
+use Rattle.bitset.proofs.Packed.{byte_read}
+use Rattle.table_uppercase.specs.Table.{chunk_map}
+use Rattle.table_uppercase.proofs.kernel.UppercaseTables.chunk_at.Goals as goal
+
+pub returns : goal.returns
+unfolding chunk_map all_below
+returns c = byte_read chunk_map _ refl c.chunk_map_eight.ensures c.byte_at.ensures
