@@ -1,7 +1,9 @@
 // The search in a bitset's five tables, and the steps that readers of the tables take.
 ghost use Rattle.std.specs.Prelude.{◌≡◌, ◌+◌, ◌%◌, ◌<◌, length, slice_index};
-ghost use Rattle.bitset.specs.Bitsets.{Bitset, bit, inverted, turned, mapped, word_at, contains, Inside};
+ghost use Rattle.bitset.specs.Bitsets.{Bitset, bitset, bit, inverted, turned, mapped, word_at, contains, Inside};
 ghost use Rattle.bitset.specs.Packed.{byte};
+
+use crate::lent::Lent;
 
 // The tables of a bitset: lent slices, or functions that are compiled in.
 pub trait Tables {
@@ -39,6 +41,28 @@ pub fn contains<T: Tables>(tables: &T, n: u32) -> bool
     let at = usize::from(tables.chunk_at(chunk)) * 16 + bucket % 16;
     let index = usize::from(tables.index_at(at));
     has_bit(tables.word_at(index), n)
+}
+
+// The same in lent slices.
+pub fn bitset_search(
+    n: u32,
+    map: &[u8],
+    chunks: &[u8],
+    canonical: &[u64],
+    real: &[u8],
+    mapping: &[u8],
+) -> bool
+    requires { Inside (bitset map.now chunks.now canonical.now real.now mapping.now) }
+    ensures { result ≡ contains (bitset map.now chunks.now canonical.now real.now mapping.now) n }
+{
+    let tables = Lent {
+        map,
+        chunks,
+        canonical,
+        real,
+        mapping,
+    };
+    contains(&tables, n)
 }
 
 // The mapping and the word stay two numbers in what follows: a struct of them would be no plainer.

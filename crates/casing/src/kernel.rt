@@ -1,7 +1,7 @@
 // Reading a plane's rows. The page of a number, 256 numbers each, says which single rows can hold it, halving finds the one that
 // does, and its word says where the number goes.
 ghost use Rattle.std.specs.Prelude.{◌≡◌, ℕ, ◌*◌, ◌%◌, ◌<◌, ◌≤◌, List, true, length, slice_index};
-ghost use Rattle.casing.specs.Rows.{Rows, covers, moved, in_plane, singles, multis, multiple, looked, from_floor};
+ghost use Rattle.casing.specs.Rows.{Rows, apart, covers, moved, in_plane, singles, multis, multiple, looked, from_floor};
 ghost use Rattle.casing.specs.Reading.{Says, packed, four_at, page_of, unpacked, row_says, RowOf, Halved, readable};
 
 // The rows of plane NUMBER, each table behind a `match`, which becomes a load from read-only data.
@@ -30,8 +30,27 @@ pub trait Plane<const NUMBER: u16> {
     ghost test: { readable rows pages ≡ true };
 }
 
-// Among the rows from first to before last: the first that does not end below x, or last. Halved by hand: no slice holds the ends.
-pub fn row_at<const NUMBER: u16, P: Plane<NUMBER>>(first: usize, last: usize, x: u16) -> usize
+// Among the rows from first to before last: the first that does not end below x, or last.
+pub fn row_at(ends: &[u16], first: usize, last: usize, x: u16) -> usize
+    requires ends_apart { apart 0 ends.now ends.now ≡ true }
+    requires first_le_last { (first ≤ last) × (last ≤ length ends.now) }
+    ensures { Halved ends.now first last x result }
+{
+    let mut lo = first;
+    let mut hi = last;
+    while lo < hi {
+        let mid = lo + (hi - lo) / 2;
+        if ends[mid] < x {
+            lo = mid + 1;
+        } else {
+            hi = mid;
+        }
+    }
+    lo
+}
+
+// The same among the rows of a plane. Halved by hand too: no slice holds their ends.
+pub fn plane_row_at<const NUMBER: u16, P: Plane<NUMBER>>(first: usize, last: usize, x: u16) -> usize
     requires { (first ≤ last) × (last ≤ length P.rows.ends) }
     ensures { Halved P.rows.ends first last x result }
 {
@@ -107,7 +126,7 @@ fn looked_up<const NUMBER: u16, P: Plane<NUMBER>>(low: u16) -> Option<(u32, u32,
     ensures { Says result (looked P.rows NUMBER low) }
 {
     let (first, last) = P::page(low / 256)?;
-    let i = row_at::<NUMBER, P>(first, last, low);
+    let i = plane_row_at::<NUMBER, P>(first, last, low);
     if i == last {
         return P::multi(low);
     }

@@ -40,7 +40,10 @@ fn describe_all<R: Read>(
     out: &mut TextBuffer<MOST_TEXT>,
 ) -> io::Result<()> {
     let mut lines = Lines::new(reader, [0u8; 65536]);
-    for (line, count) in lines.by_ref().zip(1..=u64::MAX) {
+    let mut line = TextBuffer::<MOST_LINE>::new();
+    let mut count: u64 = 0;
+    while lines.read_into(&mut line) {
+        count = count.saturating_add(1);
         put_line(out, line.as_bytes(), count);
         if out.as_bytes().len() >= NEARLY_FULL {
             emptied(rt, out)?;

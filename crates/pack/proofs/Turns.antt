@@ -113,3 +113,8 @@ pub ruleset runs_turns = (order_low, order_high, order_next, runs_same, runs_mor
 pub ruleset offsets_turns = (order_low, order_high, order_next, offsets_more, offsets_last, over_more, over_last)
 
 pub ruleset headers_turns = (order_low, order_high, order_next, headers_same, headers_more, headers_last, over_more, over_last)
+
+pub places_length : (j : ℕ) (l : List ℕ) → length (edges_from j l) ≡ length l
+unfolding edges_from
+places_length j [] = refl
+places_length j (x ∷ l) = ap suc (places_length (j + 1) l)

@@ -1,7 +1,7 @@
 // Whether a character may stand on a label: neither invisible nor unassigned.
 #![tactic(auto)]
 
-ghost use Rattle.std.specs.Prelude.{◌≡◌, not};
+ghost use Rattle.std.specs.Prelude.{◌≡◌, ◌<◌, ◌≤◌, not};
 ghost use Rattle.scalar.specs.Scalars.{answered};
 ghost use Rattle.sets.specs.Lists.{holds};
 ghost use Rattle.printable.specs.Printable.{by_tables, spans, in_spans};
@@ -39,17 +39,30 @@ pub fn is_printable(n: u32) -> Result<bool, Refusal>
     Ok(by_tables(s.value))
 }
 
-#[tactic(auto, unfolding(crate::specs::Printable::by_tables, crate::specs::Table::singletons0_high, crate::specs::Table::singletons0_count, crate::specs::Table::singletons0_low, crate::specs::Table::normal0, crate::specs::Table::singletons1_high, crate::specs::Table::singletons1_count, crate::specs::Table::singletons1_low, crate::specs::Table::normal1))]
+#[tactic(auto, unfolding(crate::specs::Printable::by_tables))]
 fn by_tables(x: u32) -> bool
     ensures { result ≡ by_tables x }
 {
-    let lower = (x % 0x10000) as u16;
     match x {
         0..32 => false,
         32..127 => true,
-        127..0x10000 => PLANE0.check(lower),
-        0x10000..0x20000 => PLANE1.check(lower),
+        127..0x20000 => by_planes(x),
         _ => outside_spans(x),
+    }
+}
+
+// Not inlined: the planes' stack frame would be set up for ASCII and for the spans too, which have no use for it.
+#[inline(never)]
+#[tactic(auto, unfolding(crate::specs::Printable::by_tables, crate::specs::Table::singletons0_high, crate::specs::Table::singletons0_count, crate::specs::Table::singletons0_low, crate::specs::Table::normal0, crate::specs::Table::singletons1_high, crate::specs::Table::singletons1_count, crate::specs::Table::singletons1_low, crate::specs::Table::normal1))]
+fn by_planes(x: u32) -> bool
+    requires { (127 ≤ x) × (x < 0x20000) }
+    ensures { result ≡ by_tables x }
+{
+    let lower = (x % 0x10000) as u16;
+    if x < 0x10000 {
+        PLANE0.check(lower)
+    } else {
+        PLANE1.check(lower)
     }
 }
 

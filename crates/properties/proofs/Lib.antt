@@ -1,3 +1,4 @@
 pub mod Wholes
+pub mod Ranges
+pub mod Spaces
 mod Fixed
-mod Spaces

@@ -1,25 +1,25 @@
--- Below 0x85 a number is no space where it is none of ASCII's. Assumes nothing.
-use Rattle.std.specs.Prelude.{◌≡◌, ℕ, ◌<◌, ◌≤◌, false}
+-- Unicode's list of whitespace is its two ASCII ranges and the other spaces, which start at 0x85: computed. So below 0x85 a number is no
+-- space where it is none of ASCII's. Assumes nothing.
+use Rattle.std.specs.Prelude.{◌≡◌, ℕ, ◌<◌, false, List, [], ◌∷◌}
 use mathlib.Core.Path.{refl}
 use native.Mathlib.Omega.{arith}
-use mathlib.Core.Logic.{⊎_elim}
-use borrow.Author.Tests.{le-leb, lt-leb}
 use Rattle.scalar.specs.Scalars.{between}
-use Rattle.sets.specs.Lists.{holds}
-use Rattle.sets.proofs.Decide.{split}
+use Rattle.sets.specs.Lists.{edges, holds}
+use Rattle.sets.proofs.Members.{rising}
+use Rattle.bitset.specs.Bitsets.{all_below}
+use Rattle.unicode_laws.proofs.Parts.{Parts, ascii_no}
 use Rattle.properties.specs.WhiteSpace.{unicode}
+use Rattle.properties.specs.Properties.{other_spaces}
+use Rattle.properties.proofs.Ranges.{outside}
 
-above : (low high n : ℕ) → n < low → between low high n ≡ false
-above low high n h = rw (lt-leb low n h) refl
+abbrev pub ascii : List ℕ
+ascii = 9 ∷ 13 ∷ 0x20 ∷ 0x20 ∷ []
 
-beside : (a n : ℕ) → (n ≡ a → ⊥) → between a a n ≡ false
-beside a n other =
-    ⊎_elim
-    (λ (h : a ≤ n). ⊎_elim (λ (k : n ≤ a). absurd (other (omega arith))) (λ (k : a < n). rw (le-leb a n h, lt-leb n a k) refl) (split n a))
-    (λ (h : n < a). rw (lt-leb a n h) refl)
-    (split a n)
+pub parts : Parts unicode ascii other_spaces 0x85
+unfolding unicode edges rising all_below
+parts = record { whole = refl; pairs = refl; low = refl; high = refl }
 
 pub no_space_below : (n : ℕ) → between 9 13 n ≡ false → (n ≡ 0x20 → ⊥) → n < 0x85 → false ≡ holds unicode n
-unfolding holds unicode
+unfolding holds
 no_space_below n none other low =
-    rw (none, beside 0x20 n other, above 0x85 0x85 n low, above 0xA0 0xA0 n (omega arith), above 0x1680 0x1680 n (omega arith), above 0x2000 0x200A n (omega arith), above 0x2028 0x2029 n (omega arith), above 0x202F 0x202F n (omega arith), above 0x205F 0x205F n (omega arith), above 0x3000 0x3000 n (omega arith)) refl
+    ascii_no unicode ascii other_spaces 0x85 parts n (rw (none, outside 0x20 0x20 n (λ p q. other (omega arith))) refl) low

@@ -1,6 +1,6 @@
 -- The nine properties by Unicode 17.0.0's lists: a number has one exactly if some range of its list holds it. The lists of
 -- five stand beside their tables; White_Space and Cc stand here. Assumes nothing: these are definitions.
-use Rattle.std.specs.Prelude.{ℕ, Bool, ◌||◌}
+use Rattle.std.specs.Prelude.{ℕ, Bool, ◌||◌, List, drop}
 use Rattle.sets.specs.Lists.{holds}
 use Rattle.table_alphabetic.specs.Unicode as Alphabetic
 use Rattle.table_lowercase.specs.Unicode as Lowercase
@@ -41,3 +41,7 @@ cased x = lowercase x || (uppercase x || titlecase x)
 -- alphanumeric is alphabetic or numeric
 abbrev pub alphanumeric : ℕ → Bool
 alphanumeric x = alphabetic x || numeric x
+
+-- whitespace past ASCII: all ranges but the first two
+abbrev pub other_spaces : List ℕ
+other_spaces = drop 4 White_Space.unicode

@@ -20,7 +20,7 @@ pub use whitespace::is_whitespace;
 pub fn is_alphabetic(n: u32) -> Result<bool, Refusal>
     ensures { result ≡ answered alphabetic n }
 {
-    Ok(alphabetic(Scalar::new(n)?.into()))
+    Ok(alphabetic(Scalar::new(n)?.value))
 }
 
 // Whether n is Unicode's Lowercase; refuses 1, then 2.
@@ -44,7 +44,7 @@ pub fn is_uppercase(n: u32) -> Result<bool, Refusal>
 pub fn is_titlecase(n: u32) -> Result<bool, Refusal>
     ensures { result ≡ answered titlecase n }
 {
-    Ok(titlecase(Scalar::new(n)?.into()))
+    Ok(titlecase(Scalar::new(n)?.value))
 }
 
 // Whether n is lowercase, uppercase or titlecase; refuses 1, then 2.
@@ -52,7 +52,7 @@ pub fn is_titlecase(n: u32) -> Result<bool, Refusal>
 pub fn is_cased(n: u32) -> Result<bool, Refusal>
     ensures { result ≡ answered cased n }
 {
-    Ok(cased(Scalar::new(n)?.into()))
+    Ok(cased(Scalar::new(n)?.value))
 }
 
 // Whether n is category Nd, Nl or No; refuses 1, then 2.
@@ -60,7 +60,7 @@ pub fn is_cased(n: u32) -> Result<bool, Refusal>
 pub fn is_numeric(n: u32) -> Result<bool, Refusal>
     ensures { result ≡ answered numeric n }
 {
-    Ok(numeric(Scalar::new(n)?.into()))
+    Ok(numeric(Scalar::new(n)?.value))
 }
 
 // Whether n is alphabetic or numeric; refuses 1, then 2.
@@ -68,5 +68,5 @@ pub fn is_numeric(n: u32) -> Result<bool, Refusal>
 pub fn is_alphanumeric(n: u32) -> Result<bool, Refusal>
     ensures { result ≡ answered alphanumeric n }
 {
-    Ok(alphanumeric(Scalar::new(n)?.into()))
+    Ok(alphanumeric(Scalar::new(n)?.value))
 }

@@ -9,11 +9,13 @@ use scalar::{Refusal, Scalar};
 fn whitespace(n: u32) -> bool
     ensures { result ≡ whitespace n }
 {
+    // Of letters and digits of ASCII nothing more is asked.
+    if n < 0x85 {
+        return matches!(n, 9..=13 | 0x20);
+    }
     matches!(
         n,
-        9..=13
-            | 0x20
-            | 0x85
+        0x85
             | 0xA0
             | 0x1680
             | 0x2000..=0x200A

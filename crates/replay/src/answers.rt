@@ -93,8 +93,11 @@ impl Want {
 impl Kind {
     fn is_right(self, n: u32, want: Want) -> bool {
         match self {
-            Kind::Property(property) => property.holds(n) == Ok(want != Want::Unlisted),
-            Kind::CaseMapping(mapping) => mapping.of(n) == Ok(want.mapping(n)),
+            Kind::Property(property) => {
+                let is_listed = !matches!(want, Want::Unlisted);
+                property.holds(n).is_ok_and(|yes| yes == is_listed)
+            }
+            Kind::CaseMapping(mapping) => mapping.of(n).is_ok_and(|to| to == want.mapping(n)),
         }
     }
 }

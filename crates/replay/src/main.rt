@@ -5,7 +5,7 @@ mod answers;
 mod rows;
 mod section;
 
-use lines::Lines;
+use lines::{Lines, MOST_LINE, TextBuffer};
 use section::Replay;
 use std::io;
 use std::io::Read;
@@ -13,7 +13,8 @@ use std::io::Read;
 fn replay_all<R: Read>(rt: &impl Print, reader: &mut R) -> io::Result<()> {
     let mut lines = Lines::new(reader, [0u8; 65536]);
     let mut replay = Replay::new();
-    for line in lines.by_ref() {
+    let mut line = TextBuffer::<MOST_LINE>::new();
+    while lines.read_into(&mut line) {
         replay.take(rt, line.as_bytes())?;
     }
     replay.finish(rt)?;

@@ -74,7 +74,7 @@ impl Section {
     }
 }
 
-#[derive(Drop)]
+#[derive(Clone, Copy)]
 pub struct Replay {
     section: Option<Section>,
     in_all: Tally,

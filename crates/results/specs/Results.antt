@@ -1,10 +1,11 @@
 -- What crosses the boundary: document 01's number and values of each answer. Assumes nothing: these are definitions.
-use Rattle.std.specs.Prelude.{◌≡◌, ℕ, Bool, false, Result, Ok, Err, [], ◌∷◌}
+use Rattle.std.specs.Prelude.{◌≡◌, ℕ, Bool, false, Result, Ok, Err}
 use Rattle.scalar.specs.Refusals.{number, carried}
 use Rattle.scalar.specs.declared.refusal.Refusal.{Refusal}
 use Rattle.skip.specs.declared.kernel.Hit.{Hit}
 use Rattle.pack.specs.declared.Packed.{Packed}
 use Rattle.casing.specs.declared.Mapping.{Mapping}
+use Rattle.casing.specs.Answers as mapping
 use Rattle.results.specs.declared.Verdict.{Verdict}
 use Rattle.results.specs.declared.YesNo.{YesNo}
 use Rattle.results.specs.declared.Count.{Count}
@@ -74,8 +75,8 @@ abbrev pub mapped_of : Result Mapping Refusal → Mapped
 mapped_of m =
     record {
       refusal = number_of m;
-      count = value_of 0 (λ mapping. mapping.count) m;
-      to = value_of (0 ∷ (0 ∷ (0 ∷ []))) (λ mapping. mapping.to) m;
+      count = mapping.count_of m;
+      to = mapping.to_of m;
     }
 
 -- the same, as relations of an answer and what crosses of it
@@ -94,5 +95,8 @@ IsSought a v = v ≡ sought_of a
 abbrev pub IsSizes : Result Packed Refusal → Sizes → Type 0
 IsSizes a v = v ≡ sizes_of a
 
-abbrev pub IsMapped : Result Mapping Refusal → Mapped → Type 0
-IsMapped a v = v ≡ mapped_of a
+-- of a mapping also that C reads what the laws of mappings speak of
+pub record IsMapped (a : Result Mapping Refusal) (v : Mapped) : Type 0 where
+  pub crosses : v ≡ mapped_of a
+  pub counts : v.count ≡ mapping.count_of a
+  pub numbers : v.to ≡ mapping.to_of a

@@ -1,5 +1,6 @@
 mod Lengths
 mod Pairs
+pub mod Places
 mod Fixed
 pub mod Boundaries
 pub mod Points

@@ -1,5 +1,5 @@
 -- Singletons of document 01's "Printable", over any bytes. Assumes nothing: these are definitions.
-use Rattle.std.specs.Prelude.{ℕ, List, [], ◌∷◌, Bool, false, ◌&&◌, ◌||◌, take, drop, eqb}
+use Rattle.std.specs.Prelude.{ℕ, ◌+◌, ◌-◌, List, [], ◌∷◌, Bool, false, cond, ◌&&◌, ◌||◌, take, drop, eqb, leb}
 
 unfoldable pub among : ℕ → List ℕ → Bool
 among low [] = false
@@ -12,3 +12,7 @@ listed [] counts lows high low = false
 listed (h ∷ highs) [] lows high low = false
 listed (h ∷ highs) (c ∷ counts) lows high low =
     eqb h high && among low (take c lows) || listed highs counts (drop c lows) high low
+
+-- `count` places on from `start`, to `len` at most
+abbrev pub up_to : ℕ → ℕ → ℕ → ℕ
+up_to start count len = cond (leb count (len - start)) (start + count) len

@@ -1,6 +1,8 @@
 // Prints, for each of the three skip tables, what stands in the list that it unpacks to, and how long the table is.
 #![tactic(auto)]
 
+ghost use Rattle.std.specs.Prelude.{◌≤◌};
+
 use std::{fmt, io};
 
 // What the most ranges unpack to, and two numbers more.
@@ -15,7 +17,9 @@ struct Counts {
     last: u32,
 }
 
-fn points_of(range: &[u32]) -> u64 {
+fn points_of(range: &[u32]) -> u64
+    ensures { result ≤ 0x100000000 }
+{
     match range {
         [first, last] => last.checked_sub(*first).map_or(0, |more| more as u64 + 1),
         _ => 0,

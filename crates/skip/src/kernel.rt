@@ -52,7 +52,8 @@ pub fn lowest_broken(headers: &[u32], offsets: &[u8]) -> Option<Rule>
     None
 }
 
-// Whether an accepted table holds x: an odd number of boundaries are at most it.
+// Whether an accepted table holds x: an odd number of boundaries are at most it. Inlined: each look-up knows its own table.
+#[inline(always)]
 pub fn skip_search(headers: &[u32], offsets: &[u8], x: CodePoint) -> bool
     requires { broken headers.now offsets.now ≡ None }
     ensures { result ≡ member (boundaries headers.now offsets.now) x.value }
@@ -62,11 +63,11 @@ pub fn skip_search(headers: &[u32], offsets: &[u8], x: CodePoint) -> bool
 }
 
 // The same, with the count of the offsets read.
-pub fn skip_search_counted(headers: &[u32], offsets: &[u8], x: CodePoint) -> Hit
-    requires { broken headers.now offsets.now ≡ None }
-    ensures { result ≡ hit headers.now offsets.now x.value }
+pub fn skip_search_counted(headers: &[u32], offsets: &[u8], x: u32) -> Hit
+    requires { (broken headers.now offsets.now ≡ None) × (x ≤ 0x10FFFF) }
+    ensures { result ≡ hit headers.now offsets.now x }
 {
-    let stop = Table { headers, offsets }.seek(x);
+    let stop = Table { headers, offsets }.seek(CodePoint { value: x });
     let yes = stop.at % 2 == 1;
     let read = if stop.at < stop.last {
         stop.at - stop.begin + 1

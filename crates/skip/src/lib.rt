@@ -46,7 +46,7 @@ pub fn search_counted(headers: &[u32], offsets: &[u8], x: u32) -> Result<Hit, Re
 {
     check(headers, offsets)?;
     let point = CodePoint::new(x)?;
-    Ok(skip_search_counted(headers, offsets, point))
+    Ok(skip_search_counted(headers, offsets, point.value))
 }
 
 // The same without the count.

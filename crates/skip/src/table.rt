@@ -102,7 +102,8 @@ impl<'a, 'b> Table<'a, 'b> {
     }
 
     // Where a search in the table stops: at offset `at` of the run whose offsets go from `begin` to `last`, or at its last
-    // offset, which is never read.
+    // offset, which is never read. Inlined: the table and the stop would cross in memory.
+    #[inline(always)]
     pub(crate) fn seek(self, x: CodePoint) -> Stop
         ensures { Stops self.entry.headers.now self.entry.offsets.now x.value result.begin result.last result.at }
     {

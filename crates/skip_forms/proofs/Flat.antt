@@ -4,7 +4,7 @@ use mathlib.Core.Path.{◌≡◌, refl, sym, ◌∙◌, ap}
 use mathlib.Core.List.{List, [], ◌∷◌, ◌++◌, append_assoc}
 use native.Mathlib.Numerals.{add-one}
 use native.Mathlib.Omega.{arith}
-use lib.ListN.{length, get_or, take, set, replicate, length-append}
+use lib.ListN.{length, get_or, take, set, replicate, length-append, length-replicate}
 use lib.Seq.{set_at, take-suc, take_at, take-length, length-take-le}
 use Rattle.skip_forms.specs.declared.records.Range.{Range}
 use Rattle.skip_forms.specs.Records.{flatten, filled}
@@ -34,6 +34,14 @@ two_stores p q k a b e =
 module _ (rs : List Range) (i : ℕ) where
   length_first : i ≤ length rs → length (flatten (take i rs)) ≡ i * 2
   length_first l = length_flatten (take i rs) ∙ ap (λ (k : ℕ). k * 2) (length-take-le i rs l)
+
+  pub length_filled : i ≤ length rs → i ≤ 1023 → length (filled i rs) ≡ 2046
+  unfolding filled
+  length_filled l m =
+      let e = length-append (flatten (take i rs)) (replicate (2046 - i * 2) 0) in
+      let f = length_first l in
+      let z = length-replicate {A = ℕ} (2046 - i * 2) 0 in
+      omega (arith, e, f, z)
 
   -- two stores at the place of record i
   pub filled_more : i < length rs → i < 1023

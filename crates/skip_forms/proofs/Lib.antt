@@ -1,4 +1,5 @@
 pub mod Flat
+pub mod Filled
 pub mod Packed
 pub mod Fixed
 pub mod Equal

@@ -11,7 +11,7 @@ use lib.ListN.{length}
 use Rattle.std.proofs.lemmas.Bool.{and_from, and_parts, cases_eq}
 use Rattle.sets.proofs.Decide.{split}
 use Rattle.skip.specs.Rules.{sized, W1, W2, W3, W4, W5, lowest_of, broken}
-use Rattle.skip_rules.specs.Stated.{RuleW1, RuleW2, RuleW3, RuleW4, RuleW5, Rule, Lowest, start}
+use Rattle.skip_rules.specs.Stated.{RuleW1, RuleW2, RuleW3, RuleW4, RuleW5, Rule, Lowest, start, number_or_none, broken_number}
 use Rattle.std.specs.Prelude.{Option, Some, None, Ok, Err}
 use Rattle.scalar.specs.Refusals.{rule_number}
 use Rattle.scalar.specs.declared.refusal.Refusal.TheVariants as refusal
@@ -144,12 +144,14 @@ lowest_named hs os r e =
     r e
 
 -- a table that breaks no rule has no lowest broken rule
-kept_all : (hs os : List ℕ) (r : Named) → Keeps hs os → Rule hs os (rule_number r)
-kept_all hs os rule.W1 k = k.w1
-kept_all hs os rule.W2 k = k.w2
-kept_all hs os rule.W3 k = k.w3
-kept_all hs os rule.W4 k = k.w4
-kept_all hs os rule.W5 k = k.w5
+kept_all : (hs os : List ℕ) (k : ℕ) → Keeps hs os → Rule hs os k
+kept_all hs os zero k = tt
+kept_all hs os (suc zero) k = k.w1
+kept_all hs os (suc (suc zero)) k = k.w2
+kept_all hs os (suc (suc (suc zero))) k = k.w3
+kept_all hs os (suc (suc (suc (suc zero)))) k = k.w4
+kept_all hs os (suc (suc (suc (suc (suc zero))))) k = k.w5
+kept_all hs os (suc (suc (suc (suc (suc (suc n)))))) k = tt
 
 -- a rule is known by its number
 of_number : ℕ → Named
@@ -168,14 +170,26 @@ by_number rule.W4 = refl
 by_number rule.W5 = refl
 
 -- the rule that the checker carries is the lowest that the table breaks
-pub lowest_exactly : (hs os : List ℕ) (r : Named) → (broken hs os ≡ Some r) ↔ Lowest (Rule hs os) (rule_number r)
-lowest_exactly hs os r = (lowest_named hs os r, λ w. by_broken w (broken hs os) refl)
+pub named_exactly : (hs os : List ℕ) (r : Named) → (broken hs os ≡ Some r) ↔ Lowest (Rule hs os) (rule_number r)
+named_exactly hs os r = (lowest_named hs os r, λ w. by_broken w (broken hs os) refl)
   where
     by_broken : Lowest (Rule hs os) (rule_number r) → (b : Option Named) → broken hs os ≡ b → broken hs os ≡ Some r
-    by_broken w None e = absurd (w.breaks (kept_all hs os r ((accepts_exactly hs os).0 e)))
+    by_broken w None e = absurd (w.breaks (kept_all hs os (rule_number r) ((accepts_exactly hs os).0 e)))
     by_broken w (Some s) e =
         let same_number = unique (Rule hs os) (rule_number s) (rule_number r) (lowest_named hs os s e) w in
         e ∙ ap Some (sym (by_number s) ∙ ap of_number same_number ∙ by_number r)
+
+-- so of every number above 0: it is the lowest broken rule's exactly if the checker says so, and no number but the five is any
+pub lowest_exactly : (hs os : List ℕ) (k : ℕ) → 0 < k → (broken_number hs os ≡ k) ↔ Lowest (Rule hs os) k
+lowest_exactly hs os k l = (λ e. to (broken hs os) refl e, λ w. back w (broken hs os) refl)
+  where
+    to : (b : Option Named) → broken hs os ≡ b → number_or_none b ≡ k → Lowest (Rule hs os) k
+    to None e n = absurd (omega arith)
+    to (Some r) e n = subst (Lowest (Rule hs os)) n (lowest_named hs os r e)
+
+    back : Lowest (Rule hs os) k → (b : Option Named) → broken hs os ≡ b → number_or_none b ≡ k
+    back w None e = absurd (w.breaks (kept_all hs os k ((accepts_exactly hs os).0 e)))
+    back w (Some r) e = unique (Rule hs os) (rule_number r) k (lowest_named hs os r e) w
 
 -- so the checker's answer is Ok exactly for the tables that keep the rules, and 8 with rule r exactly where r is the lowest broken
 pub checks_accepted : (hs os : List ℕ) → (Ok tt ≡ checks hs os) ↔ Keeps hs os
@@ -185,7 +199,7 @@ checks_accepted hs os = (
 )
 
 pub checks_refused : (hs os : List ℕ) (r : Named) → Lowest (Rule hs os) (rule_number r) → Err (refusal.BrokenRule r) ≡ checks hs os
-checks_refused hs os r w = table_refused hs os Err (Ok tt) r ((lowest_exactly hs os r).1 w)
+checks_refused hs os r w = table_refused hs os Err (Ok tt) r ((named_exactly hs os r).1 w)
 
 -- and in each of them both searches follow the boundary count, at every number to 0x10FFFF
 pub searches_member : (hs os : List ℕ) (x : ℕ) → Keeps hs os → x ≤ 0x10FFFF → Ok (member (boundaries hs os) x) ≡ searches hs os x

@@ -1,10 +1,13 @@
 -- The rules W1 to W5 in document 01's own words, header by header and run by run. proofs/Stated.antt shows each of them
 -- equivalent to its test in crates/skip/specs/Rules.antt. Assumes nothing: these are definitions.
-use Rattle.std.specs.Prelude.{ℕ, zero, suc, ◌+◌, ◌-◌, ◌<◌, ◌≤◌, ◌≡◌, List, length, get_or, drop}
+use Rattle.std.specs.Prelude.{ℕ, zero, suc, ◌+◌, ◌-◌, ◌<◌, ◌≤◌, ◌≡◌, List, length, get_or, drop, Option, Some, None}
 use Rattle.std.proofs.Math.Seq.{slice}
+use Rattle.scalar.specs.Refusals.{rule_number}
+use Rattle.scalar.specs.declared.refusal.Rule.{Rule as Named}
 use Rattle.sets.specs.Orders.{Rises}
 use Rattle.skip.specs.Headers.{start_index, prefix_sum, run_end}
 use Rattle.skip.specs.Seek.{prev, total}
+use Rattle.skip.specs.Rules.{broken}
 
 -- run k's start and prefix sum
 abbrev pub start : List ℕ → ℕ → ℕ
@@ -56,3 +59,11 @@ Rule hs os (suc (suc (suc (suc (suc (suc k)))))) = Unit
 pub record Lowest (P : ℕ → Type 0) (k : ℕ) : Type 0 where
   pub breaks : P k → ⊥
   pub kept : (j : ℕ) → j < k → P j
+
+-- the number of the rule that the checker finds broken, 0 where it finds none
+abbrev pub number_or_none : Option Named → ℕ
+number_or_none None = 0
+number_or_none (Some r) = rule_number r
+
+abbrev pub broken_number : List ℕ → List ℕ → ℕ
+broken_number hs os = number_or_none (broken hs os)

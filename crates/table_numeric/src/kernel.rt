@@ -1,5 +1,5 @@
 // The lookup: a map of marks first, then the skip table.
-ghost use Rattle.std.specs.Prelude.{◌≡◌, ◌/◌};
+ghost use Rattle.std.specs.Prelude.{◌≡◌, ◌/◌, ◌≤◌};
 ghost use Rattle.bitset.specs.Marks.{marked};
 ghost use Rattle.sets.specs.Lists.{holds};
 ghost use Rattle.table_numeric.specs.Flat.{flat};
@@ -21,8 +21,9 @@ fn bucket_marked(n: u32) -> bool
 
 // Whether n is numeric and no ASCII character. A name hardly holds such a number: the marks keep away from the skip table what is
 // in none of its buckets.
-pub fn lookup(n: CodePoint) -> bool
-    ensures { result ≡ holds flat n.value }
+pub fn lookup(n: u32) -> bool
+    requires { n ≤ 0x10FFFF }
+    ensures { result ≡ holds flat n }
 {
-    bucket_marked(n.value) && skip::kernel::skip_search(&HEADERS, &OFFSETS, n)
+    bucket_marked(n) && skip::kernel::skip_search(&HEADERS, &OFFSETS, CodePoint { value: n })
 }

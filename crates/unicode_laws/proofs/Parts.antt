@@ -46,3 +46,16 @@ module _ (unicode ascii flat : List ℕ) (floor : ℕ) (parts : Parts unicode as
       (λ h. rw (le-leb floor x h) either)
       (λ h. rw (lt-leb floor x h, or-false (holds ascii x)) (below_floor h))
       (split floor x)
+
+  pub from_ascii : 0x80 ≤ x → holds unicode x ≡ holds flat x
+  from_ascii h = either ∙ ap (λ (t : Bool). t || holds flat x) (none_past x 0x80 ascii parts.low h)
+
+  -- what an entry's three ways to answer cite: the ASCII part holds x; it does not, and x is below the floor; the table's answer
+  pub ascii_yes : holds ascii x ≡ true → true ≡ holds unicode x
+  ascii_yes e = sym (either ∙ ap (λ (t : Bool). t || holds flat x) e)
+
+  pub ascii_no : holds ascii x ≡ false → x < floor → false ≡ holds unicode x
+  ascii_no e h = sym (below_floor h ∙ e)
+
+  pub from_table : (r : Bool) → 0x80 ≤ x → r ≡ holds flat x → r ≡ holds unicode x
+  from_table r h e = e ∙ sym (from_ascii h)

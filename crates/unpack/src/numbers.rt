@@ -1,11 +1,11 @@
 // The list that a table unpacks to, number by number.
-ghost use Rattle.std.specs.Prelude.{◌≡◌, ◌+◌, ◌≤◌, false, length};
+ghost use Rattle.std.specs.Prelude.{◌≡◌, ◌+◌, ◌≤◌, false, length, drop};
+ghost use Rattle.skip.specs.Headers.{run_end};
 ghost use Rattle.skip.specs.Table.{boundaries};
 ghost use Rattle.unpack.specs.Flow.{leaves, waits, flow, number_of, numbers};
 
 use scalar::Scalar;
-use skip::kernel::run_end;
-use skip::prefix_sum;
+use skip::{prefix_sum, start_index};
 
 // Boundary b as the next number of the list: a first, or the last before it.
 fn number_of(last: bool, b: u32) -> u32
@@ -22,6 +22,16 @@ fn meets(waiting: bool, p: u32, b: u32) -> (bool, bool)
     (listed, listed || !waiting)
 }
 
+// Where the run of the first header ends: the next start, or the end of the n offsets.
+fn first_end(headers: &[u32], n: usize) -> usize
+    ensures { result ≡ run_end n (drop 1 headers.now) }
+{
+    match headers {
+        [_, next, ..] => start_index(*next),
+        _ => n,
+    }
+}
+
 // The numbers that are left to list.
 #[derive(Clone, Copy)]
 pub(crate) struct Numbers<'a, 'b> {
@@ -30,6 +40,8 @@ pub(crate) struct Numbers<'a, 'b> {
     offsets: &'b [u8],
     n: usize,
     i: usize,
+    // Where the current run ends: it is read once for a run, and not for each offset.
+    end: usize,
     // The boundary so far, which the next one may stand on, and whether it waits to be listed.
     at: u32,
     waiting: bool,
@@ -37,6 +49,7 @@ pub(crate) struct Numbers<'a, 'b> {
     last: bool,
     ghost inside: { at ≤ 0x10FFFF },
     ghost places: { i + length offsets.now ≤ n },
+    ghost ends: { end ≡ run_end n (drop 1 headers.now) },
 }
 
 impl<'a, 'b> Numbers<'a, 'b> {
@@ -50,6 +63,7 @@ impl<'a, 'b> Numbers<'a, 'b> {
             offsets,
             n: offsets.len(),
             i: 0,
+            end: first_end(headers, offsets.len()),
             at: 0,
             waiting: false,
             last: false,
@@ -57,22 +71,35 @@ impl<'a, 'b> Numbers<'a, 'b> {
     }
 
     // The next boundary. Those of an accepted table do not fall, so past 0x10FFFF none is left.
+    #[inline(always)]
     fn boundary(&mut self) -> Option<u32>
         ensures { GivesBoundary self.old result self.new }
     {
         let (header, later) = self.headers.split_first()?;
         let (offset, rest) = self.offsets.split_first()?;
-        let (b, headers) = if self.i + 1 == run_end(self.headers, self.n, 0) {
-            (prefix_sum(*header), later)
-        } else {
-            (self.at + u32::from(*offset), self.headers)
-        };
+        if self.i + 1 != self.end {
+            let b = self.at + u32::from(*offset);
+            if b > Scalar::MAX {
+                return None;
+            }
+            self.offsets = rest;
+            self.i += 1;
+            return Some(b);
+        }
+        let b = prefix_sum(*header);
         if b > Scalar::MAX {
             return None;
         }
-        self.headers = headers;
-        self.offsets = rest;
-        self.i += 1;
+        *self = Numbers {
+            headers: later,
+            offsets: rest,
+            n: self.n,
+            i: self.i + 1,
+            end: first_end(later, self.n),
+            at: self.at,
+            waiting: self.waiting,
+            last: self.last,
+        };
         Some(b)
     }
 }
@@ -87,6 +114,7 @@ impl<'a, 'b> Iterator for Numbers<'a, 'b> {
 
     ghost remaining = { item_count numbers_left };
 
+    #[inline(always)]
     fn next(&mut self) -> Option<u32> {
         while let Some(b) = self.boundary() {
             let before = self.at;

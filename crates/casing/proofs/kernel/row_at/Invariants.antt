@@ -4,7 +4,7 @@ use Rattle.casing.proofs.Halving.{Halving}
 use Rattle.casing.proofs.kernel.row_at.Given as goal
 
 abbrev pub invariant-loop-lo : goal.invariant-loop-lo
-invariant-loop-lo g l = Halving g.P.Plane.rows.ends l.first l.last l.x l.lo l.hi
+invariant-loop-lo l = Halving l.ends l.first l.last l.x l.lo l.hi
 
 abbrev pub decreases-loop-lo : goal.decreases-loop-lo
-decreases-loop-lo g l = l.hi - l.lo
+decreases-loop-lo l = l.hi - l.lo

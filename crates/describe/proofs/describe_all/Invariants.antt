@@ -1,0 +1,5 @@
+-- Each line that is read uses up a turn. Assumes nothing.
+use Rattle.describe.proofs.describe_all.Given as goal
+
+abbrev pub decreases-loop-line : goal.decreases-loop-line
+decreases-loop-line g l = l.lines.input.turns
