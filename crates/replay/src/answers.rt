@@ -119,10 +119,13 @@ impl Tally {
 
     // Every number from one up to, not including, another; the data has answers for scalar values alone.
     pub(crate) fn compare(&mut self, kind: Kind, from: u32, to: u32, want: Want) {
+        // A copy, so that the counts stay in registers.
+        let mut tally = *self;
         for n in from..to {
             if Scalar::new(n).is_ok() {
-                self.count(kind.is_right(n, want));
+                tally.count(kind.is_right(n, want));
             }
         }
+        *self = tally;
     }
 }
